@@ -1,0 +1,4 @@
+pub mod Letters
+pub mod Actions
+pub mod First
+pub mod Names

@@ -14,11 +14,7 @@ use Rattle.std.specs.declared.option.Option.the-variants.{Some, None}
 use Rattle.std.specs.Options.{isSome}
 use Rattle.std.proofs.shelf.Lists.{getD-set-same, getD-set-other}
 use Rattle.std.proofs.shelf.Tests.{cond-true, cond-false, cases-bool, cases-eq, cases-lt, both-ways, or-left, or-right, or-from, eqb-true, eq-eqb, ne-eqb}
-use Rattle.records.specs.First.{firstFrom, first, some}
-
--- the test marks no place below i
-abbrev pub Clear : (ℕ → Bool) → ℕ → Type 0
-Clear f i = (k : ℕ) → k < i → f k ≡ false
+use Rattle.records.specs.First.{firstFrom, first, some, Clear}
 
 none-from : (f : ℕ → Bool) (i n : ℕ) → ((k : ℕ) → i ≤ k → k < i + n → f k ≡ false) → firstFrom f i n ≡ None
 none-from f i zero h = refl

@@ -1,6 +1,6 @@
 -- What a record's letter makes of it: one case a letter.
 use mathlib.Core.Bool.{cond}
-use Prim.Native.Nat.{ℕ}
+use Prim.Native.Nat.{ℕ, _<_}
 use lib.Dec.{eqb}
 use Rattle.std.specs.declared.option.Option.{Option}
 use Rattle.std.specs.declared.option.Option.the-variants.{Some, None}
@@ -29,3 +29,19 @@ abbrev pub nameOf : Action → ℕ
 nameOf (Read n x s) = n
 nameOf (Write n x) = n
 nameOf (Sync n k o) = n
+
+-- where the action accesses memory, the location is one of the 64
+abbrev pub LocatedOp : SyncOp → Type 0
+LocatedOp (VolatileRead x s) = x < 64
+LocatedOp (VolatileWrite x) = x < 64
+LocatedOp (Lock m) = Unit {0}
+LocatedOp (Unlock m) = Unit {0}
+LocatedOp (Spawn t) = Unit {0}
+LocatedOp (Join t) = Unit {0}
+LocatedOp Begin = Unit {0}
+LocatedOp End = Unit {0}
+
+abbrev pub Located : Action → Type 0
+Located (Read n x s) = x < 64
+Located (Write n x) = x < 64
+Located (Sync n k o) = LocatedOp o

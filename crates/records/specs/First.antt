@@ -1,6 +1,7 @@
 -- The first place that a test marks, and whether there is one.
-use mathlib.Core.Bool.{Bool, cond}
-use Prim.Native.Nat.{ℕ, zero, suc}
+use mathlib.Core.Bool.{Bool, false, cond}
+use mathlib.Core.Path.{_≡_}
+use Prim.Native.Nat.{ℕ, zero, suc, _<_}
 use Rattle.std.specs.Options.{isSome}
 use Rattle.std.specs.declared.option.Option.{Option}
 use Rattle.std.specs.declared.option.Option.the-variants.{Some, None}
@@ -16,3 +17,7 @@ first f n = firstFrom f 0 n
 
 abbrev pub some : (ℕ → Bool) → ℕ → Bool
 some f n = isSome (first f n)
+
+-- the test marks no place below n
+abbrev pub Clear : (ℕ → Bool) → ℕ → Type 0
+Clear f n = (k : ℕ) → k < n → f k ≡ false

@@ -2,3 +2,4 @@ pub mod Letters
 pub mod Actions
 pub mod First
 pub mod Names
+pub mod Executions

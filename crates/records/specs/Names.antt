@@ -1,8 +1,9 @@
 -- Threads, places and names of the actions in a list of records.
-use mathlib.Core.List.{List, [], _∷_}
+use mathlib.Core.List.{List, [], _∷_, map}
 use Prim.Native.Nat.{ℕ, suc, _+_, _*_}
 use lib.Dec.{eqb, ltb}
 use lib.ListN.{length, getD, take}
+use Rattle.std.specs.Iters.{counting}
 use Rattle.std.specs.Options.{valueOr}
 use Rattle.std.specs.declared.option.Option.{Option}
 use Rattle.std.specs.shelf.Lists.{kept-by}
@@ -54,3 +55,13 @@ actionsFrom n (r ∷ rs) = valueOr (actionOf n r) (Sync n 0 End) ∷ actionsFrom
 -- the actions of a thread, in program order
 abbrev pub actions : List Record → ℕ → List Action
 actions xs t = actionsFrom (named t 0) (ofThread t xs)
+
+-- ── A case as its eight threads ──
+abbrev pub Case : Type 0
+Case = List (List Action)
+
+abbrev pub thread : Case → ℕ → List Action
+thread c t = getD c t []
+
+abbrev pub threadsOf : List Record → Case
+threadsOf xs = map (actions xs) (counting 0 8)

@@ -4,10 +4,10 @@
 // list as it came, with any bytes in its fields. `Action` is what the letter makes of a record; the layers that judge
 // speak of actions and never of letters. An item is one step of the evidence for a case. Nothing here allocates.
 //
-// Whoever adds a letter adds it in `Record::action`, in the four tests below, and in specs/Letters.antt: the contracts
+// Whoever adds a letter adds it in `Record::action`, in the tests below, and in specs/Letters.antt: the contracts
 // tie the two together.
 ghost use mathlib.Core.Path.{_≡_};
-ghost use Rattle.records.specs.Letters.{isCapital, isPlain, isRead, isWrite};
+ghost use Rattle.records.specs.Letters.{isCapital, isPlain, isVolatile, isRead, isWrite};
 
 pub mod action;
 
@@ -44,6 +44,13 @@ impl Record {
         ensures { λ b. ⌜ b ≡ isPlain (now (self .entry) .letter) ⌝ }
     {
         matches!(self.letter, 'r' | 'w')
+    }
+
+    // Whether it reads or writes a volatile location.
+    pub fn is_volatile(&self) -> bool
+        ensures { λ b. ⌜ b ≡ isVolatile (now (self .entry) .letter) ⌝ }
+    {
+        matches!(self.letter, 'R' | 'W')
     }
 
     // Whether it reads a location, plain or volatile.

@@ -1,0 +1,13 @@
+pub mod Found
+pub mod Tables
+pub mod Layouts
+pub mod Fields
+pub mod Flags
+pub mod Turning
+pub mod Lives
+pub mod Holders
+pub mod Unbroken
+pub mod Kept
+pub mod Taken
+pub mod Clears
+pub mod Laws

@@ -1,0 +1,13 @@
+-- A refusal as a reader of the answer sees it: its number, and the place that it names.
+use Prim.Native.Nat.{ℕ}
+use Rattle.std.specs.declared.option.Option.{Option}
+use Rattle.std.specs.declared.option.Option.the-variants.{Some, None}
+
+pub record Refusal : Type 0 where
+  pub number : ℕ
+  pub place : ℕ
+
+-- refused by this number at the place found, if one was found; else what comes next
+abbrev pub refuse : ℕ → Option ℕ → Option Refusal → Option Refusal
+refuse n None next = next
+refuse n (Some p) next = Some (record { number = n; place = p })

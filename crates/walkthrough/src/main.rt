@@ -2,6 +2,9 @@
 //
 // The execution is store buffering: two threads each write a location of their own and then read the other's, and both
 // reads see the default write. Each chapter below is one layer of the judge; a layer that is added adds a chapter.
+mod certificate;
+mod run;
+
 use case::checked::CheckedCase;
 use form::fault::FormFault;
 use records::Record;
@@ -169,5 +172,7 @@ fn form_chapter(rt: &impl Print, case: &mut CheckedCase) -> io::Result<()> {
 
 fn main(rt: LibcRuntime) -> io::Result<()> {
     let mut case = CheckedCase::empty();
-    form_chapter(&rt, &mut case)
+    form_chapter(&rt, &mut case)?;
+    run::chapter(&rt, &case)?;
+    certificate::chapter(&rt, &case)
 }

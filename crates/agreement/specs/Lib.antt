@@ -1,0 +1,5 @@
+pub mod Convert
+pub mod Moments
+pub mod Evidence
+pub mod Agreement
+pub mod Worked

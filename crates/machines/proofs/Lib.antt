@@ -1,0 +1,10 @@
+pub mod Tables
+pub mod Feeds
+pub mod Spent
+pub mod Threads
+pub mod Windows
+pub mod RunStates
+pub mod Steps
+pub mod Shifts
+pub mod Moves
+pub mod Lefts

@@ -1,0 +1,9 @@
+pub mod Machine
+pub mod Memory
+pub mod Items
+pub mod Faults
+pub mod Run
+pub mod Rows
+pub mod Certificate
+pub mod Lists
+pub mod Moves

@@ -8,7 +8,7 @@ use Rattle.std.specs.declared.option.Option.the-variants.{Some, None}
 use Rattle.records.specs.declared.Record.{Record}
 use Rattle.records.specs.Executions.{emptyCase, storeBuffering, carriedRead, carriedOther, staleMessage, writesOf, writesTo, volatileBehindWrite, equalValues, turnsExchanged, lockedTwice}
 use Rattle.form.specs.Form.{formRefusal}
-use Rattle.form.specs.Refusals.{Refusal}
+use Rattle.records.specs.Refusals.{Refusal}
 
 pub record Example : Type 0 where
   pub records : List Record

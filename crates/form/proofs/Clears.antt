@@ -12,7 +12,7 @@ use Rattle.std.proofs.shelf.Tests.{true≢false, both-ways, not-true, and-from,
 use Rattle.records.specs.declared.Record.{Record}
 use Rattle.records.specs.First.{first, Clear}
 use Rattle.records.proofs.Firsts.{Found, nowhere, here, found, none-clear}
-use Rattle.form.specs.Refusals.{Refusal, refuse}
+use Rattle.records.specs.Refusals.{Refusal, refuse}
 use Rattle.form.specs.Rules.{misplaced, malformed, mixed, sawNoWrite, capitals, mistimed, misframed}
 use Rattle.form.specs.Turns.{hasTurn, placed}
 use Rattle.form.specs.Lives.{misfits}

@@ -12,7 +12,7 @@ use Rattle.records.specs.declared.Record.{Record}
 use Rattle.records.specs.First.{first}
 use Rattle.form.specs.declared.fault.FormFault.{FormFault}
 use Rattle.form.specs.declared.fault.FormFault.the-variants.{Grouping, Field, MixedLocation, UnknownWrite, Turn, Frame, Life, Monitor}
-use Rattle.form.specs.Refusals.{Refusal, refuse}
+use Rattle.records.specs.Refusals.{Refusal, refuse}
 use Rattle.form.specs.Rules.{misplaced, malformed, mixed, sawNoWrite, capitals, mistimed, misframed}
 use Rattle.form.specs.Turns.{placed}
 use Rattle.form.specs.Lives.{misfits}

@@ -1,4 +1,3 @@
-pub mod Refusals
 pub mod Rules
 pub mod Layouts
 pub mod Turns

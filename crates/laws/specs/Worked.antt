@@ -13,7 +13,7 @@ use Rattle.records.specs.declared.Record.{Record}
 use Rattle.records.specs.Executions.{emptyCase, storeBuffering, carriedRead, carriedOther, staleMessage, writesOf, volatileBehindWrite, equalValues}
 use Rattle.records.specs.Letters.{letter}
 use Rattle.records.specs.Names.{threadsOf}
-use Rattle.form.specs.Refusals.{Refusal}
+use Rattle.records.specs.Refusals.{Refusal}
 use Rattle.machines.specs.Machine.{Machine, refusalOf, completes}
 use Rattle.machines.specs.Run.{runMachine}
 use Rattle.machines.specs.Certificate.{certificateMachine}

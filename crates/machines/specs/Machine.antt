@@ -8,7 +8,7 @@ use Rattle.std.specs.declared.option.Option.the-variants.{Some, None}
 use Rattle.std.specs.declared.result.Result.{Result}
 use Rattle.std.specs.declared.result.Result.the-variants.{Ok, Err}
 use Rattle.records.specs.declared.Item.{Item}
-use Rattle.form.specs.Refusals.{Refusal}
+use Rattle.records.specs.Refusals.{Refusal}
 
 pub record Machine (S : Type 0) : Type 0 where
   pub fresh : S

@@ -3,3 +3,4 @@ pub mod Actions
 pub mod First
 pub mod Names
 pub mod Executions
+pub mod Refusals

@@ -10,7 +10,7 @@ use Rattle.std.specs.declared.option.Option.the-variants.{None}
 use Rattle.records.specs.declared.Record.{Record}
 use Rattle.form.specs.Form.{formRefusal, inForm}
 use Rattle.form.specs.Layouts.{startsOf}
-use Rattle.form.specs.Refusals.{Refusal}
+use Rattle.records.specs.Refusals.{Refusal}
 use Rattle.form.proofs.Laws.{lawful}
 use Rattle.case.proofs.checked.CheckedCase.fill.Needs as need
 

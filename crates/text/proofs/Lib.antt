@@ -1,0 +1,12 @@
+pub mod Apart
+pub mod Letters
+pub mod Splits
+pub mod Numerals
+pub mod Cells
+pub mod RoundTrip
+pub mod Scans
+pub mod Places
+pub mod Texts
+pub mod Columns
+pub mod Reader
+pub mod Writer

@@ -1,7 +1,7 @@
 -- Any step that takes items or refuses them: what is told by a list of items that is taken to its end.
 use mathlib.Core.Path.{_≡_, refl, ap, _∙_}
 use mathlib.Core.Bool.{Bool, true, false}
-use mathlib.Core.List.{List, [], _∷_}
+use mathlib.Core.List.{List, [], _∷_, _++_}
 use Prim.Native.Nat.{ℕ, _≤_, _<_}
 use native.Mathlib.Omega.{arith}
 use lib.ListN.{length}
@@ -44,6 +44,12 @@ module _ {S I : Type 0} (step : S → I → Result S ℕ) where
       go : (o : Result S ℕ) → step s i ≡ o → feed step o is ≡ Ok s′ → Stepped i is s s′
       go (Ok m) q e′ = record { next = m; steps = q; onward = e′ }
       go (Err n) q e′ = absurd (refused n is e′)
+
+  -- one item more
+  pub feed-more : (o : Result S ℕ) (s : S) (is : List I) (i : I) → feed step o is ≡ Ok s → feed step o (is ++ (i ∷ [])) ≡ step s i
+  feed-more (Ok r) s [] i e = ap (λ u. step u i) (ok-inj e)
+  feed-more (Ok r) s (j ∷ is) i e = feed-more (step r j) s is i e
+  feed-more (Err n) s is i e = absurd (refused n is e)
 
 -- ── Items that lead to a complete state ──
 pub record Ends {S I : Type 0} (step : S → I → Result S ℕ) (done : S → Bool) (o : Result S ℕ) (is : List I) : Type 0 where

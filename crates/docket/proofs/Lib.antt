@@ -1,0 +1,4 @@
+pub mod Joining
+pub mod Refilling
+pub mod Desks
+pub mod Settlings

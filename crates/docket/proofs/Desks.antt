@@ -1,6 +1,6 @@
 -- A docket and its slots follow the desk: one call, and then a list of calls, one more at a time.
 use mathlib.Core.Path.{_≡_, refl, sym, ap, subst, _∙_}
-use mathlib.Core.List.{List, [], _∷_, _++_, map}
+use mathlib.Core.List.{List, [], _∷_, _++_}
 use Prim.Native.Nat.{ℕ, _+_, _<_}
 use native.Mathlib.Omega.{arith}
 use lib.ListN.{length, take, drop, getD, set, length-append}
@@ -14,7 +14,7 @@ use Rattle.docket.specs.declared.Docket.{Docket}
 use Rattle.docket.specs.declared.calls.Answer.{Answer}
 use Rattle.docket.specs.declared.calls.Call.{Call}
 use Rattle.docket.specs.Plain.{Plain, empty, Asked, Reply}
-use Rattle.docket.specs.Standing.{Stands, Heeds}
+use Rattle.docket.specs.Standing.{Stands}
 use Rattle.docket.specs.Slots.{Held, Desk, desk, asked, left, replyTo, nextBy, deskReply, deskNext, replies, worked}
 use Rattle.docket.specs.Working.{saysAny, Acts, Acted}
 use Rattle.docket.specs.Promise.{PlainAnswers, PlainSlots, StillStands}

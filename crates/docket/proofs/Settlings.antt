@@ -1,7 +1,7 @@
 -- The desk's replies keep the law of runs: the plain docket's list is what calls and replies say, and settlings rule on it.
 use mathlib.Core.Path.{_≡_, refl, sym, subst}
 use mathlib.Core.Bool.{Bool, true, false, cond}
-use mathlib.Core.List.{List, [], _∷_, _++_}
+use mathlib.Core.List.{List, [], _∷_}
 use Prim.Native.Nat.{ℕ, _+_}
 use lib.Dec.{eqb, ltb}
 use lib.ListN.{length, getD}
@@ -15,7 +15,7 @@ use Rattle.docket.specs.declared.calls.Call.{Call}
 use Rattle.docket.specs.declared.calls.Call.the-variants.{Open, Offer, Settle, Withdraw}
 use Rattle.docket.specs.declared.ticket.Ticket.{Ticket}
 use Rattle.docket.specs.declared.ticket.TicketName.{TicketName}
-use Rattle.docket.specs.Plain.{Plain, Asked, opens, offers, settles, withdraws, Opened, own, verdict, itemReply, nowOpen, joined, nowSettled, nowWithdrawn, fits, offered, reply, next}
+use Rattle.docket.specs.Plain.{Asked, opens, offers, settles, withdraws, Opened, own, verdict, itemReply, nowOpen, joined, nowSettled, nowWithdrawn, fits, offered}
 use Rattle.docket.specs.Slots.{Held, Desk, inSlot, withTicket, withNone, asked, replyTo, nextBy, deskReply, deskNext, replies}
 use Rattle.docket.specs.Runs.{since, Ruled, RuledAt, AllRuled}
 

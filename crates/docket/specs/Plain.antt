@@ -1,6 +1,5 @@
 -- The plain docket, which a person could keep by hand: a list of items and five counts. It is fed only the arguments of
 -- the calls, a ticket by the name that stands on it.
-use mathlib.Core.Path.{_≡_}
 use mathlib.Core.Bool.{Bool, true, false, cond, _&&_}
 use mathlib.Core.List.{List, [], _∷_, _++_}
 use Prim.Native.Nat.{ℕ, _+_}

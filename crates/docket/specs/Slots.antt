@@ -1,5 +1,4 @@
 -- Tickets in slots beside a docket, and calls that name a slot. A desk is a plain docket with such slots.
-use mathlib.Core.Path.{_≡_}
 use mathlib.Core.Bool.{Bool, true, false, cond}
 use mathlib.Core.List.{List, [], _∷_}
 use Prim.Native.Nat.{ℕ}

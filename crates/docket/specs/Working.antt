@@ -1,8 +1,5 @@
--- What a docket and the slots beside it make of one call and of a whole list of them, told by the desk.
+-- What an answer says, and what a docket and the slots beside it make of one call.
 use mathlib.Core.Path.{_≡_}
-use mathlib.Core.List.{List, map}
-use Prim.Native.Nat.{ℕ}
-use lib.ListN.{length, take, drop}
 use Rattle.std.specs.declared.option.Option.{Option}
 use Rattle.std.specs.declared.option.Option.the-variants.{Some, None}
 use Rattle.case.specs.declared.checked.CheckedCase.{CheckedCase}
@@ -12,9 +9,9 @@ use Rattle.docket.specs.declared.calls.Call.{Call}
 use Rattle.docket.specs.declared.calls.Answer.{Answer}
 use Rattle.docket.specs.declared.calls.Answer.the-variants as answers
 use Rattle.docket.specs.Faults.{told}
-use Rattle.docket.specs.Plain.{Plain, Asked, Reply, Opened, Taken, Withdrawn, Refused}
-use Rattle.docket.specs.Standing.{Stands, Heeds, verdictSays}
-use Rattle.docket.specs.Slots.{Held, asked, left, desk, replies, worked}
+use Rattle.docket.specs.Plain.{Asked, Reply, Opened, Taken, Withdrawn, Refused}
+use Rattle.docket.specs.Standing.{Heeds, verdictSays}
+use Rattle.docket.specs.Slots.{Held, asked, left}
 
 abbrev pub says : Answer → Reply
 says (answers.Opened t) = Opened t

@@ -1,7 +1,7 @@
 -- The example of docs/DOCKET.md: a docket numbered 7 for the kind run, over store buffering, as the plain docket has it.
 use mathlib.Core.Path.{_≡_}
 use mathlib.Core.Bool.{false}
-use mathlib.Core.List.{List, [], _∷_, _++_, map}
+use mathlib.Core.List.{List, [], _∷_, map}
 use Prim.Native.Nat.{ℕ}
 use Rattle.std.specs.declared.option.Option.{Option}
 use Rattle.std.specs.declared.option.Option.the-variants.{Some, None}
@@ -13,9 +13,8 @@ use Rattle.machines.specs.Machine.{Machine}
 use Rattle.machines.specs.Run.{RunState, runMachine}
 use Rattle.docket.specs.declared.calls.Call.{Call}
 use Rattle.docket.specs.declared.calls.Call.the-variants.{Open, Offer, Settle, Withdraw}
-use Rattle.docket.specs.declared.ticket.TicketName.{TicketName}
 use Rattle.docket.specs.Plain.{Plain, empty, Reply, Opened, Taken, Allowed, Withdrawn, Refused}
-use Rattle.docket.specs.Slots.{Held, Desk, desk, replies, worked}
+use Rattle.docket.specs.Slots.{Desk, desk, replies, worked}
 
 abbrev pub runOfStoreBuffering : Machine RunState
 runOfStoreBuffering = runMachine (threadsOf storeBuffering)

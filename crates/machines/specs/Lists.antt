@@ -1,7 +1,9 @@
 -- What the certificate checker's table stands for, for a case.
-use mathlib.Core.List.{List, [], map}
+use mathlib.Core.List.{List, [], _∷_, map}
 use Prim.Native.Nat.{ℕ}
 use lib.ListN.{length, getD, take, drop}
+use Rattle.std.specs.declared.option.Option.{Option}
+use Rattle.std.specs.declared.option.Option.the-variants.{Some, None}
 use Rattle.records.specs.declared.action.Action.{Action}
 use Rattle.records.specs.declared.action.Action.the-variants.{Sync}
 use Rattle.records.specs.declared.action.SyncOp.the-variants.{End}
@@ -34,3 +36,8 @@ orderState c m =
       memory = held (m .memory);
       turns = m .turns;
     }
+
+-- the first of a list
+abbrev pub headOf : List Action → Option Action
+headOf [] = None
+headOf (a ∷ l) = Some a

@@ -11,7 +11,7 @@ ghost use Rattle.case.specs.declared.checked.CheckedCase.{CheckedCase};
 ghost use Rattle.machines.specs.declared.items.CertificateItem.the-variants.{Move, Come};
 ghost use Rattle.machines.specs.Certificate.{moveAt, certifies, freshOrder, certificateStep, certificateMachine};
 ghost use Rattle.machines.specs.Faults.{told, certificateNumber};
-ghost use Rattle.machines.specs.Lists.{actionAt, orderState};
+ghost use Rattle.machines.specs.Lists.{actionAt, headOf, orderState};
 ghost use Rattle.machines.specs.Machine.{answer, moved};
 ghost use Rattle.machines.specs.Moves.{saw, readsOther, shift};
 use crate::faults::CertificateFault;
@@ -201,6 +201,20 @@ impl Certificate {
             ) => self.move_read(case, thread, place, count),
             Some(CertificateItem::Come(thread)) => self.come(case, thread),
         }
+    }
+
+    // The action of a thread that comes with its next O: the first of what is left of its moved list.
+    pub fn upcoming(&self, case: &CheckedCase, thread: u8) -> Option<Action>
+        ensures next { λ r. ⌜ r ≡ headOf (orderState (threads (now (case .entry))) (now (self .entry)) .left thread) ⌝ }
+    {
+        if thread > 7 {
+            return None;
+        }
+        let list = &self.lists[thread as usize];
+        if list.next as usize >= case.thread(thread).len() {
+            return None;
+        }
+        Some(action_at(case, thread, list.places[list.next as usize]))
     }
 
     // Whether every action has come.

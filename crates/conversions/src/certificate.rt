@@ -12,7 +12,7 @@ ghost use Rattle.machines.specs.Run.{runMachine};
 ghost use Rattle.agreement.specs.Convert.{moveCount};
 ghost use Rattle.agreement.specs.Evidence.{certificateItems, written};
 ghost use Rattle.conversions.specs.Counts.{Counted};
-ghost use Rattle.conversions.specs.Faults.{refusalIn, conversionRefusal};
+ghost use Rattle.conversions.specs.Faults.{refusalIn, examined, conversionRefusal};
 ghost use Rattle.conversions.specs.Fronts.{put};
 use crate::examine::examine;
 use crate::fault::ConversionFault;
@@ -46,21 +46,35 @@ pub(crate) fn write_certificate(case: &CheckedCase, run: &[Item], out: &mut [Ite
     }
 }
 
+// Refuses a run that is not complete. A function of its own, so that the checker's rows are gone before the converter's
+// rows are made.
+fn examine_run(case: &CheckedCase, run: &[Item]) -> Result<(), ConversionFault>
+    ensures refusal { λ r. ⌜ refusalIn r ≡ examined (runMachine (threads (now (case .entry)))) (now (run .entry)) ⌝ }
+    ensures complete { λ r. ⌜ Cases r (λ _. completes (runMachine (threads (now (case .entry)))) (now (run .entry)) ≡ true) (λ _. Unit {0}) ⌝ }
+{
+    let mut checker = Run::new();
+    examine(&mut checker, case, run)
+}
+
 // As many items as a certificate can have.
 const ROOM: usize = 4352;
 
 // Writes the certificate that a complete run converts to at the front of the list, and answers how many items and moves it
 // has; a run that is not complete is refused, and so is a list without room for every certificate: it then stays as it is.
-pub fn to_certificate(case: &CheckedCase, run: &[Item], out: &mut [Item]) -> Result<Written, ConversionFault>
+pub fn to_certificate(
+    case: &CheckedCase,
+    run: &[Item],
+    out: &mut [Item],
+) -> Result<Written, ConversionFault>
     ensures refusal { λ r. ⌜ refusalIn r ≡ conversionRefusal (runMachine (threads (now (case .entry)))) 4352 (length (now (out .entry))) (now (run .entry)) ⌝ }
     ensures list { λ r. ⌜ Cases r (λ _. now (out .exit) ≡ put 0 (written (threads (now (case .entry))) (now (run .entry))) (now (out .entry))) (λ _. now (out .exit) ≡ now (out .entry)) ⌝ }
+    ensures size { λ _. ⌜ length (now (out .exit)) ≡ length (now (out .entry)) ⌝ }
     ensures counts { λ r. ⌜ Cases r (λ n. Counted (threads (now (case .entry))) (now (run .entry)) (length (recordsOf (now (case .entry)))) (n .items) (n .moves)) (λ _. Unit {0}) ⌝ }
     ensures complete { λ r. ⌜ Cases r (λ _. completes (certificateMachine (threads (now (case .entry)))) (written (threads (now (case .entry))) (now (run .entry))) ≡ true) (λ _. Unit {0}) ⌝ }
 {
     if out.len() < ROOM {
         return Err(ConversionFault::ListTooShort);
     }
-    let mut checker = Run::new();
-    examine(&mut checker, case, run)?;
+    examine_run(case, run)?;
     Ok(write_certificate(case, run, out))
 }

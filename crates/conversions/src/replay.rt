@@ -13,7 +13,7 @@ ghost use Rattle.machines.specs.Lists.{orderState};
 ghost use Rattle.machines.specs.Machine.{completes};
 ghost use Rattle.machines.specs.Run.{runMachine};
 ghost use Rattle.agreement.specs.Evidence.{runEncoded, replayed};
-ghost use Rattle.conversions.specs.Faults.{refusalIn, conversionRefusal};
+ghost use Rattle.conversions.specs.Faults.{refusalIn, examined, conversionRefusal};
 ghost use Rattle.conversions.specs.Fronts.{put};
 ghost use Rattle.conversions.specs.Replays.{nexts, missing, performed, itemReplay, itemNext};
 use crate::examine::examine;
@@ -121,6 +121,15 @@ fn write_run(case: &CheckedCase, certificate: &[Item], out: &mut [Item]) -> u16
     at as u16
 }
 
+// Refuses a certificate that is not complete.
+fn examine_certificate(case: &CheckedCase, certificate: &[Item]) -> Result<(), ConversionFault>
+    ensures refusal { λ r. ⌜ refusalIn r ≡ examined (certificateMachine (threads (now (case .entry)))) (now (certificate .entry)) ⌝ }
+    ensures complete { λ r. ⌜ Cases r (λ _. completes (certificateMachine (threads (now (case .entry)))) (now (certificate .entry)) ≡ true) (λ _. Unit {0}) ⌝ }
+{
+    let mut checker = Certificate::new();
+    examine(&mut checker, case, certificate)
+}
+
 // Writes the run that a complete certificate is replayed to at the front of the list, and answers how many items it has;
 // a certificate that is not complete is refused, and so is a list without room for every run: it then stays as it is.
 pub fn to_run(
@@ -130,12 +139,12 @@ pub fn to_run(
 ) -> Result<u16, ConversionFault>
     ensures refusal { λ r. ⌜ refusalIn r ≡ conversionRefusal (certificateMachine (threads (now (case .entry)))) 512 (length (now (out .entry))) (now (certificate .entry)) ⌝ }
     ensures list { λ r. ⌜ Cases r (λ n. (now (out .exit) ≡ put 0 (replayed (threads (now (case .entry))) (now (certificate .entry))) (now (out .entry))) × (n ≡ length (replayed (threads (now (case .entry))) (now (certificate .entry))))) (λ _. now (out .exit) ≡ now (out .entry)) ⌝ }
+    ensures size { λ _. ⌜ length (now (out .exit)) ≡ length (now (out .entry)) ⌝ }
     ensures complete { λ r. ⌜ Cases r (λ n. (completes (runMachine (threads (now (case .entry)))) (replayed (threads (now (case .entry))) (now (certificate .entry))) ≡ true) × (n ≤ 512)) (λ _. Unit {0}) ⌝ }
 {
     if out.len() < ROOM {
         return Err(ConversionFault::ListTooShort);
     }
-    let mut checker = Certificate::new();
-    examine(&mut checker, case, certificate)?;
+    examine_certificate(case, certificate)?;
     Ok(write_run(case, certificate, out))
 }

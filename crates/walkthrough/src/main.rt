@@ -3,6 +3,7 @@
 // The execution is store buffering: two threads each write a location of their own and then read the other's, and both
 // reads see the default write. Each chapter below is one layer of the judge; a layer that is added adds a chapter.
 mod certificate;
+mod conversion;
 mod run;
 
 use case::checked::CheckedCase;
@@ -174,5 +175,6 @@ fn main(rt: LibcRuntime) -> io::Result<()> {
     let mut case = CheckedCase::empty();
     form_chapter(&rt, &mut case)?;
     run::chapter(&rt, &case)?;
-    certificate::chapter(&rt, &case)
+    certificate::chapter(&rt, &case)?;
+    conversion::chapter(&rt, &case)
 }

@@ -42,7 +42,7 @@ run_thread (Drain t) = t
 -- an item changes the row of its thread, and makes it lighter
 record Lighter (n : ℕ) (m k : RunState) (t : ℕ) : Type 0 where
   within : RunWithin n k
-  of_thread_lem : t < n
+  in_range : t < n
   off : (u : ℕ) → u ≢ t → row_weight (k.rest u) (k.buffer u) ≡ row_weight (m.rest u) (m.buffer u)
   less : row_weight (k.rest t) (k.buffer t) < row_weight (m.rest t) (m.buffer t)
 
@@ -55,7 +55,7 @@ performs-only n m k t a rs w q er eb =
         rest_within = subst (From n) (sym er) (from_upd n m.rest t rs w.rest_within lt);
         buffer_within = subst (From n) (sym eb) w.buffer_within;
       };
-      of_thread_lem = lt;
+      in_range = lt;
       off = λ u d. ap₂ (λ r b. row_weight (r u) (b u)) er eb ∙ ap (λ r. row_weight r (m.buffer u)) (upd_off m.rest t rs u d);
       less =
           let x = ap (λ r. length (r t)) er ∙ ap (λ l. length l) (upd_at m.rest t rs) in
@@ -84,7 +84,7 @@ lighter {n} {m} w (t_write {t} {n = a} {x} {rs} q) =
         rest_within = from_upd n m.rest t rs w.rest_within lt;
         buffer_within = from_upd n m.buffer t b w.buffer_within lt;
       };
-      of_thread_lem = lt;
+      in_range = lt;
       off = λ u d. ap₂ (λ r c. row_weight r c) (upd_off m.rest t rs u d) (upd_off m.buffer t b u d);
       less =
           let u = ap (λ l. length l) (upd_at m.rest t rs) in
@@ -97,7 +97,7 @@ lighter {n} {m} w (t_drain {t} {b = b} q) =
     let lt = below n m.buffer t w.buffer_within q in
     record {
       within = record { rest_within = w.rest_within; buffer_within = from_upd n m.buffer t b w.buffer_within lt };
-      of_thread_lem = lt;
+      in_range = lt;
       off = λ u d. ap (λ c. row_weight (m.rest u) c) (upd_off m.buffer t b u d);
       less =
           let x = ap (λ l. length l) (upd_at m.buffer t b) in
@@ -112,7 +112,7 @@ run_few n is m m' w e = bounded runs (RunWithin n) (run_weight n) lowers is m m'
     lowers : (m k : RunState) (i : RunItem) → RunWithin n m → runs m i ≡ Ok k → RunWithin n k × (run_weight n k < run_weight n m)
     lowers m k i w' e' =
         let h = lighter w' (run_taken m i e') in
-        let l = h.of_thread_lem in
+        let l = h.in_range in
         let a = sum_at (run_thread i) (λ u. row_weight (m.rest u) (m.buffer u)) (λ u. row_weight (k.rest u) (k.buffer u))
         h.off
         n 0 (omega arith) (omega arith) in
@@ -123,7 +123,7 @@ pub run_small : (n : ℕ) (is : List RunItem) (m m' : RunState) → RunWithin n 
     → All (λ i. run_thread i < n) is
 run_small n is m m' w e =
     each-taken runs (RunWithin n) (λ i. run_thread i < n)
-    (λ m k i w' e'. let h = lighter w' (run_taken m i e') in (h.within, h.of_thread_lem)) is m m' w e
+    (λ m k i w' e'. let h = lighter w' (run_taken m i e') in (h.within, h.in_range)) is m m' w e
 
 -- ── Certificates ──
 abbrev pub left_count : ℕ → OrderState → ℕ

@@ -16,7 +16,6 @@ use Rattle.agreement.specs.Convert.{Mark, mark, comings, move_items, all_moves, 
 use Rattle.machines.proofs.Tables.{upd_at, upd_still}
 use Rattle.agreement.proofs.Updates.{upd_upd, on₁, back₁₀, From, below, from_upd}
 use Rattle.machines.proofs.Feeds.{ok_inj, not_ok, needed, need_met, stepped, Ends, ends-step}
-use Rattle.agreement.proofs.Buffer.{here}
 use Rattle.agreement.proofs.Moving.{OneMove, Moves, still, step, none_moves}
 use Rattle.agreement.proofs.Relations.{Ord, o_end, o_write, o_read, o_sync}
 use Rattle.agreement.proofs.RunSteps.{all-spent, done_all}

@@ -15,7 +15,6 @@ use Rattle.machines.specs.Certificate.{OrderState, certifies, certificate_step_o
 use Rattle.agreement.specs.Evidence.{run_items, certificate_items, run_encoded, certificate_encoded}
 use Rattle.agreement.specs.Agreement.{Encoding}
 use Rattle.machines.proofs.Feeds.{not_ok, stepped}
-use Rattle.agreement.proofs.Moving.{step}
 
 -- ── Any machine that reads its items ──
 module _ {S I : Type 0} (of : Item → Option I) (step_of : S → Option I → Result S ℕ) (step : S → I → Result S ℕ)

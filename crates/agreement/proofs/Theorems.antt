@@ -144,8 +144,8 @@ module _ (xs : List Record) (is : List Item) (s : RunState) (e : reached (run_ma
   run-are : map run_encoded (run_items is) ≡ is
   run-are = encoding.run_taken (threads_of xs) is s e
 
-  run_items_lem : Sized xs → length is ≤ 512
-  run_items_lem h =
+  of_runs : Sized xs → length is ≤ 512
+  of_runs h =
       let c = threads_of xs in
       let a = run_few 8 (run_items is) (fresh_run c) s run-within run_feeds in
       let b = ap (sum_over 8 0) (fun_ext (λ u. let z : 2 * length (thread c u) + 0 ≡ 2 * length (thread c u) = omega arith in z))
@@ -202,8 +202,8 @@ module _ (xs : List Record) (js : List Item) (s : OrderState) (e : reached (cert
       let g = sym (length-map (certificate_items js) certificate_encoded) ∙ ap length certificate-are in
       omega arith
 
-  certificate_items_lem : Sized xs → length js ≤ 4352
-  certificate_items_lem h =
+  of_certificates : Sized xs → length js ≤ 4352
+  of_certificates h =
       let a = items-are h in
       let b = moves-most h in
       let f = h.few in
@@ -225,9 +225,9 @@ module _ (xs : List Record) (js : List Item) (s : OrderState) (e : reached (cert
 pub few : Few
 few =
     record {
-      run_items_lem = λ xs is s h e. run_items_lem xs is s e h;
+      of_runs = λ xs is s h e. of_runs xs is s e h;
       run_fits = run_fits;
-      certificate_items_lem = λ xs js s h e. certificate_items_lem xs js s e h;
+      of_certificates = λ xs js s h e. of_certificates xs js s e h;
       certificate_fits = λ xs js s h e. certificate_fits xs js s e h;
       reversing = reversing;
       moves = λ xs js s h e. moves-most xs js s e h;
@@ -263,7 +263,7 @@ to_certificate_lem =
       items_counted = written-items;
       items_few = λ xs is h e.
           let d = written-ends xs is e in
-          certificate_items_lem xs (written (threads_of xs) is) d.last d.taken h;
+          of_certificates xs (written (threads_of xs) is) d.last d.taken h;
       items_fit = λ xs is h e.
           let d = written-ends xs is e in
           certificate_fits xs (written (threads_of xs) is) d.last d.taken h;
@@ -277,7 +277,7 @@ pub to_run_lem : ToRun
 to_run_lem =
     record {
       run = replayed-run;
-      run_few = λ xs js h e. let d = replayed-ends xs js e in run_items_lem xs (replayed (threads_of xs) js) d.last d.taken h;
+      run_few = λ xs js h e. let d = replayed-ends xs js e in of_runs xs (replayed (threads_of xs) js) d.last d.taken h;
       run_fit = λ xs js e. let d = replayed-ends xs js e in run_fits xs (replayed (threads_of xs) js) d.last d.taken;
     }
 

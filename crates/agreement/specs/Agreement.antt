@@ -50,11 +50,11 @@ pub record Encoding : Type 0 where
 -- ── How many ──
 -- Few items are taken, whether or not they lead to the end, and their numbers are small. No kind may take more than 8,192.
 pub record Few : Type 0 where
-  pub run_items_lem : (xs : List Record) (is : List Item) (s : RunState) → Sized xs
+  pub of_runs : (xs : List Record) (is : List Item) (s : RunState) → Sized xs
       → reached (run_machine (threads_of xs)) is ≡ Ok s → length is ≤ 512
   pub run_fits : (xs : List Record) (is : List Item) (s : RunState)
       → reached (run_machine (threads_of xs)) is ≡ Ok s → All Fits is
-  pub certificate_items_lem : (xs : List Record) (js : List Item) (s : OrderState) → Sized xs
+  pub of_certificates : (xs : List Record) (js : List Item) (s : OrderState) → Sized xs
       → reached (certificate_machine (threads_of xs)) js ≡ Ok s → length js ≤ 4352
   pub certificate_fits : (xs : List Record) (js : List Item) (s : OrderState) → Sized xs
       → reached (certificate_machine (threads_of xs)) js ≡ Ok s → All Fits js

@@ -7,6 +7,8 @@
 //
 // Whoever changes a machine meets the change first in proofs/RunSteps.antt or proofs/CertificateSteps.antt, which say once
 // what an item that is taken does. proofs/Lib.antt has the proofs in reading order.
+#![tactic(auto)]
+
 ghost use Rattle.agreement.specs.Agreement.{Agreement, Encoding, Few, ToCertificate, ToRun, ByMoments};
 ghost use Rattle.agreement.specs.Worked.{StoreBuffering, CarriedRead};
 

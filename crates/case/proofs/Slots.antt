@@ -1,16 +1,15 @@
 -- Where the records of a case in form stand: each thread's part of the list, the action at each place, names and indices.
-use Rattle.std.proofs.Common.{◌≡◌, ℕ, zero, suc, ◌+◌, ◌-◌, ◌*◌, ◌/◌, ◌%◌, ◌<◌, ◌≤◌, Bool, true, false, cond, ◌&&◌, eqb, ltb, ◌⊎◌, List, [], ◌∷◌, map, length, get_or, take, drop, is_some, IfSome, Some, None, Option, unwrap_or, sym, refl, ap, ◌∙◌, subst, inl, inr, ⊎_elim, add-one, arith}
-use Rattle.std.specs.List.{slice_get, range_with_len}
+use Rattle.std.proofs.Common.{◌≡◌, ℕ, zero, suc, ◌+◌, ◌-◌, ◌*◌, ◌<◌, ◌≤◌, Bool, true, false, ◌&&◌, eqb, ltb, List, [], ◌∷◌, length, get_or, take, drop, is_some, IfSome, Some, None, Option, unwrap_or, sym, refl, ap, ◌∙◌, subst, ⊎_elim, add-one, arith}
+use Rattle.std.specs.List.{slice_get}
 use Rattle.std.proofs.lemmas.List.FromFn.{get_or-map-range_with_len, length-map-range_with_len}
 use Rattle.std.proofs.lemmas.List.{get_or_past, nil_from_length}
-use Rattle.std.proofs.lemmas.Bool.{cases_lt, cases_Bool, cond-true, cond-false, and_parts, and_cases, ltb-true, ltb-false, lt-ltb, le-ltb, both_ways, false≢true, eqb-true}
+use Rattle.std.proofs.lemmas.Bool.{cases_lt, cond-true, cond-false, lt-ltb, le-ltb, both_ways, false≢true, eqb-true}
 use Rattle.records.specs.declared.Record.{Record}
 use Rattle.records.specs.declared.action.Action.{Action}
 use Rattle.records.specs.declared.action.Action.TheVariants.{Sync}
 use Rattle.records.specs.declared.action.SyncOp.TheVariants.{End}
 use Rattle.records.specs.Actions.{action_of, Located}
-use Rattle.records.specs.First.{first}
-use Rattle.records.specs.Names.{blank, at, of_thread, below, place, named, name, record_named, actions_from, actions, thread, threads_of}
+use Rattle.records.specs.Names.{blank, at, of_thread, below, named, name, record_named, actions_from, actions, thread, threads_of}
 use Rattle.records.proofs.Firsts.{Found, nowhere, here, found}
 use Rattle.records.proofs.Threads.{below_more, together, at_place, stands}
 use Rattle.form.specs.Form.{in_form}
@@ -18,7 +17,7 @@ use Rattle.form.specs.Layouts.{starts_of, slot, slot_named}
 use Rattle.form.proofs.Clears.{clears}
 use Rattle.form.proofs.Laws.{lawful}
 use Rattle.form.proofs.Fields.{located}
-use Rattle.form.proofs.Layouts.{grouped, starts_at, below-within, thread_small, slot-named, At, at_slot}
+use Rattle.form.proofs.Layouts.{grouped, starts_at, below-within, thread_small, slot-named, at_slot}
 use Rattle.case.specs.Cases.{name_at}
 
 -- ── Lists of actions ──

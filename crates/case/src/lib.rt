@@ -3,6 +3,8 @@
 // There are two ways to one: the empty case, and `fill`, which checks the records first. All layers above take a
 // `&CheckedCase`, so that none of them sees records that are not in form. Its meaning is a list of records
 // (`records_of`), and the eight threads' actions (`threads`); both are in specs/Cases.
+#![tactic(auto)]
+
 ghost use Rattle.std.specs.Prelude.{◌≡◌, ◌<◌, ◌≤◌, true, [], length, take, IfSome, Some, OnErr};
 ghost use Rattle.std.specs.List.{slice_get};
 ghost use Rattle.records.specs.Actions.{Located};

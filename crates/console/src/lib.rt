@@ -2,6 +2,8 @@
 //
 // Nothing here decides anything: verdicts come from the crate verdict, and only its bytes go to standard output. What is
 // said in words goes to standard error.
+#![tactic(auto)]
+
 pub mod options;
 pub mod words;
 

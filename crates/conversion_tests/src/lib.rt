@@ -4,6 +4,8 @@
 // 30 plain writes and then 30 plain reads, each of the others begins and has 31 writes and 32 reads. With no drain every
 // read passes all its thread's writes: 30·30 + 3·31·32 = 3,876 moves. Eight threads of 32 records: thread 0 has 12 writes
 // and 12 reads, the others 15 writes and 16 reads: 12·12 + 7·15·16 = 1,824 moves.
+#![tactic(auto)]
+
 use case::checked::CheckedCase;
 use conversions::certificate::to_certificate;
 use conversions::replay::to_run;

@@ -14,8 +14,8 @@ pub(crate) fn examine<K: Evidence>(
     case: &CheckedCase,
     evidence: &[Item],
 ) -> Result<(), ConversionFault>
-    ensures refusal { refusal_in result ≡ examined (machine case.now) evidence.now }
-    ensures complete { OnOk result (completes (machine case.now) evidence.now ≡ true) }
+    ensures refusal { refusal_in result ≡ examined (K.machine case.now) evidence.now }
+    ensures complete { OnOk result (completes (K.machine case.now) evidence.now ≡ true) }
 {
     checker.begin(case);
     for (place, item) in evidence.iter().enumerate() {

@@ -12,6 +12,8 @@
 //
 // A complete certificate becomes a run (`to_run`): for each action that comes its thread performs all that it has not
 // performed up to this action, and drains a plain write at once. Nothing here allocates.
+#![tactic(auto)]
+
 pub mod certificate;
 mod examine;
 pub mod fault;

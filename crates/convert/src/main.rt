@@ -1,4 +1,6 @@
 // The converter: reads a case and its evidence, and writes evidence of the other kind.
+#![tactic(auto)]
+
 use anyhow::anyhow;
 use console::options::{Options, complain, read_options};
 use console::words::explain;

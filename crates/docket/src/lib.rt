@@ -14,6 +14,8 @@
 // literally as it was; a kind promises the same of its checker. The counts are written as one value, since they balance
 // at every moment. A new call is a new case of `Asked` in specs/Plain, with its reply and its next plain docket. A new
 // refusal is a variant of `DocketFault` and a line of `told` in specs/Faults.
+#![tactic(auto)]
+
 ghost use Rattle.std.specs.Prelude.{◌≡◌, ◌≤◌, true, false, is_ok, IfOk, IfErr, MatchResult, OnErr};
 ghost use Rattle.machines.specs.Machine.{answer, moved};
 ghost use Rattle.docket.specs.Plain.{Plain, empty, opens, offers, settles, withdraws};
@@ -55,7 +57,7 @@ pub enum Verdict {
 impl<K: Evidence> Docket<K> {
     // The checker may be in any state. Give each docket a number of its own: tickets are told apart by numbers alone.
     pub fn new(checker: K, case: &CheckedCase, number: u16) -> Docket<K>
-        ensures stands { Stands machine state result empty }
+        ensures stands { Stands K.machine K.state result empty }
         ensures case { result.case ≡ case.now }
         ensures number { result.number ≡ number }
     {
@@ -77,7 +79,7 @@ impl<K: Evidence> Docket<K> {
 
     // Begins an examination: 41 while one is open, 43 after 65,535.
     pub fn open(&mut self) -> Result<Ticket, DocketFault>
-        ensures heeds { Heeds machine state self.old opens (open_says result) self.new }
+        ensures heeds { Heeds K.machine K.state self.old opens (open_says result) self.new }
         ensures granted { is_ok result ≡ vacant self.old }
         ensures unspent { IfOk result (λ t. t.spent ≡ false) }
         ensures admits { IfOk result (λ t. admits self.new t.name ≡ true) }
@@ -107,7 +109,7 @@ impl<K: Evidence> Docket<K> {
 
     // Puts one item more: 42 if the ticket is not that of the open examination, else the kind's refusal, else taken.
     pub fn offer(&mut self, ticket: &Ticket, item: Item) -> Result<(), DocketFault>
-        ensures heeds { Heeds machine state self.old (offers ticket.now.name item) (offer_says result) self.new }
+        ensures heeds { Heeds K.machine K.state self.old (offers ticket.now.name item) (offer_says result) self.new }
         ensures counts { self.new.counts ≡ self.old.counts }
         ensures kept { OnErr result (self.new ≡ self.old) }
     {
@@ -125,7 +127,7 @@ impl<K: Evidence> Docket<K> {
 
     // Ends the examination with a verdict: 42, and the ticket comes back, if it is not that of the open examination.
     pub fn settle(&mut self, ticket: Ticket) -> Result<Verdict, HandedBack>
-        ensures heeds { Heeds machine state self.old (settles ticket.name) (settle_says result) self.new }
+        ensures heeds { Heeds K.machine K.state self.old (settles ticket.name) (settle_says result) self.new }
         ensures granted { is_ok result ≡ admits self.old ticket.name }
         ensures kept { OnErr result (self.new ≡ self.old) }
         ensures back { IfErr result (λ b. b.ticket ≡ ticket) }
@@ -155,7 +157,7 @@ impl<K: Evidence> Docket<K> {
 
     // Ends the examination with none, and answers the number of items taken: 42 as for `settle`.
     pub fn withdraw(&mut self, ticket: Ticket) -> Result<u16, HandedBack>
-        ensures heeds { Heeds machine state self.old (withdraws ticket.name) (withdraw_says result) self.new }
+        ensures heeds { Heeds K.machine K.state self.old (withdraws ticket.name) (withdraw_says result) self.new }
         ensures granted { is_ok result ≡ admits self.old ticket.name }
         ensures kept { OnErr result (self.new ≡ self.old) }
         ensures back { IfErr result (λ b. b.ticket ≡ ticket) }
@@ -175,7 +177,7 @@ impl<K: Evidence> Docket<K> {
     // How many examinations were opened, and how they ended.
     pub fn counts(&self) -> Counts
         ensures value { result ≡ self.now.counts }
-        ensures plain { (p : Plain) → Stands machine state self.now p → Counted result p }
+        ensures plain { (p : Plain) → Stands K.machine K.state self.now p → Counted result p }
         ensures balanced { Balanced result }
         ensures single { result.«open» ≤ 1 }
     {
@@ -194,8 +196,8 @@ impl<K: Evidence> Docket<K> {
 
     // Puts an item to the checker, and counts it if it is taken.
     fn put(&mut self, item: Item) -> Result<(), u8>
-        ensures answer { result ≡ answer (step_of machine state self.old item) }
-        ensures after { state_of machine state self.new ≡ moved (state_of machine state self.old) (step_of machine state self.old item) }
+        ensures answer { result ≡ answer (step_of K.machine K.state self.old item) }
+        ensures after { state_of K.machine K.state self.new ≡ moved (state_of K.machine K.state self.old) (step_of K.machine K.state self.old item) }
         ensures rest { MatchResult result (λ _. OneMore self.old self.new) (λ _. self.new ≡ self.old) }
     {
         self.checker.put(&self.case, item)?;

@@ -25,7 +25,7 @@ fn open_at<K: Evidence>(
     held: &mut [Option<Ticket>],
     slot: usize,
 ) -> Option<Answer>
-    ensures acted { Acted machine state docket.old held.old (Call.Open slot) result docket.new held.new }
+    ensures acted { Acted K.machine K.state docket.old held.old (Call.Open slot) result docket.new held.new }
 {
     if slot >= held.len() {
         return None;
@@ -49,7 +49,7 @@ fn offer_at<K: Evidence>(
     slot: usize,
     item: Item,
 ) -> Option<Answer>
-    ensures acted { Acted machine state docket.old held.now (Call.Offer slot item) result docket.new held.now }
+    ensures acted { Acted K.machine K.state docket.old held.now (Call.Offer slot item) result docket.new held.now }
 {
     if slot >= held.len() {
         return None;
@@ -68,7 +68,7 @@ fn settle_at<K: Evidence>(
     held: &mut [Option<Ticket>],
     slot: usize,
 ) -> Option<Answer>
-    ensures acted { Acted machine state docket.old held.old (Call.Settle slot) result docket.new held.new }
+    ensures acted { Acted K.machine K.state docket.old held.old (Call.Settle slot) result docket.new held.new }
 {
     if slot >= held.len() {
         return None;
@@ -90,7 +90,7 @@ fn withdraw_at<K: Evidence>(
     held: &mut [Option<Ticket>],
     slot: usize,
 ) -> Option<Answer>
-    ensures acted { Acted machine state docket.old held.old (Call.Withdraw slot) result docket.new held.new }
+    ensures acted { Acted K.machine K.state docket.old held.old (Call.Withdraw slot) result docket.new held.new }
 {
     if slot >= held.len() {
         return None;
@@ -113,7 +113,7 @@ fn act<K: Evidence>(
     held: &mut [Option<Ticket>],
     call: Call,
 ) -> Option<Answer>
-    ensures acted { Acted machine state docket.old held.old call result docket.new held.new }
+    ensures acted { Acted K.machine K.state docket.old held.old call result docket.new held.new }
 {
     match call {
         Call::Open(slot) => open_at(docket, held, slot),
@@ -136,14 +136,14 @@ pub fn work_off<K: Evidence>(
     ensures case { docket.new.case ≡ docket.old.case }
     ensures number { docket.new.number ≡ docket.old.number }
     ensures rest { drop (length calls.now) answers.new ≡ drop (length calls.now) answers.old }
-    ensures answers { result ≡ true → PlainAnswers machine state docket.old held.old calls.now answers.new }
-    ensures tickets { result ≡ true → PlainSlots machine state docket.old held.old calls.now held.new }
-    ensures stands { result ≡ true → StillStands machine state docket.old held.old calls.now docket.new }
-    ensures rulings { result ≡ true → PlainRulings machine state docket.old held.old calls.now answers.new }
-    ensures counts { result ≡ true → PlainCounts machine state docket.old held.old calls.now docket.new.counts }
+    ensures answers { result ≡ true → PlainAnswers K.machine K.state docket.old held.old calls.now answers.new }
+    ensures tickets { result ≡ true → PlainSlots K.machine K.state docket.old held.old calls.now held.new }
+    ensures stands { result ≡ true → StillStands K.machine K.state docket.old held.old calls.now docket.new }
+    ensures rulings { result ≡ true → PlainRulings K.machine K.state docket.old held.old calls.now answers.new }
+    ensures counts { result ≡ true → PlainCounts K.machine K.state docket.old held.old calls.now docket.new.counts }
     ensures balanced { Balanced docket.new.counts }
     ensures single { docket.new.counts.«open» ≤ 1 }
-    ensures model { ByEvidence (machine docket.old.case) (allows docket.old.case) }
+    ensures model { ByEvidence (K.machine docket.old.case) (K.allows docket.old.case) }
 {
     if calls.len() > answers.len() {
         return false;
@@ -165,18 +165,18 @@ pub fn session<K: Evidence>(
 ) -> Result<Docket<K>, K>
     ensures room { is_ok result ≡ nat_le (length calls.now) (length answers.old) }
     ensures untouched { IfErr result (λ k. (k ≡ checker) × (held.new ≡ held.old) × (answers.new ≡ answers.old)) }
-    ensures answers { OnOk result (Answered (machine case.now) number (desk empty held.old) calls.now answers.new) }
+    ensures answers { OnOk result (Answered (K.machine case.now) number (desk empty held.old) calls.now answers.new) }
     ensures rest { drop (length calls.now) answers.new ≡ drop (length calls.now) answers.old }
-    ensures rulings { OnOk result (RuledOnItems (machine case.now) number (desk empty held.old) calls.now answers.new) }
-    ensures tickets { OnOk result (SlotsLeft (machine case.now) number (desk empty held.old) calls.now held.new) }
+    ensures rulings { OnOk result (RuledOnItems (K.machine case.now) number (desk empty held.old) calls.now answers.new) }
+    ensures tickets { OnOk result (SlotsLeft (K.machine case.now) number (desk empty held.old) calls.now held.new) }
     ensures returned { OnOk result (TidySlots held.old calls.now held.new) }
-    ensures stands { IfOk result (λ d. Stands machine state d (worked (machine case.now) number (desk empty held.old) calls.now).plain) }
+    ensures stands { IfOk result (λ d. Stands K.machine K.state d (worked (K.machine case.now) number (desk empty held.old) calls.now).plain) }
     ensures case { IfOk result (λ d. d.case ≡ case.now) }
     ensures number { IfOk result (λ d. d.number ≡ number) }
-    ensures counts { IfOk result (λ d. CountsLeft (machine case.now) number (desk empty held.old) calls.now d.counts) }
+    ensures counts { IfOk result (λ d. CountsLeft (K.machine case.now) number (desk empty held.old) calls.now d.counts) }
     ensures balanced { IfOk result (λ d. Balanced d.counts) }
     ensures single { IfOk result (λ d. d.counts.«open» ≤ 1) }
-    ensures model { ByEvidence (machine case.now) (allows case.now) }
+    ensures model { ByEvidence (K.machine case.now) (K.allows case.now) }
 {
     if calls.len() > answers.len() {
         return Err(checker);

@@ -3,6 +3,8 @@
 // That a function here is proved shows that on each of its ways every ticket goes back. A ticket that was not admitted
 // would come back from `settle`, and there would be nothing to do with it: so a user shows, from what `open` and `offer`
 // promise, that its ticket is admitted.
+#![tactic(auto)]
+
 ghost use Rattle.std.specs.Prelude.{◌≡◌, false, [], ◌∷◌, length};
 ghost use Rattle.docket.specs.Standing.{vacant};
 ghost use Rattle.docket_users.specs.Worked.{printed, Printed, counts_at_end};

@@ -1,6 +1,8 @@
 // Judges the shipped examples: each folder beside it that has a case and its evidence, against the verdict kept there.
 //
 // It is run in the folder data/. A file that cannot be read counts as empty, as it does for the judge.
+#![tactic(auto)]
+
 use std::str::from_utf8;
 use std::{fs, io};
 use verdict::write_verdict;
@@ -48,7 +50,7 @@ fn folders(rt: &HostRuntime) -> io::Result<Vec<String>> {
             names.push(String::from_str(rt.alloc(), entry.file_name())?)?;
         }
     }
-    names.sort();
+    names.sort()?;
     Ok(names)
 }
 

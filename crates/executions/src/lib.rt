@@ -3,6 +3,8 @@
 // Each row of specs/Table has the records and the items of one piece of evidence, and beside them what the page prints: what
 // the form check answers, what the items come to on the machine of their kind, what complete evidence is converted to, and
 // the row of the judge, whose bytes are compared from the first to the last. Nothing here runs.
+#![tactic(auto)]
+
 ghost use Rattle.std.specs.Prelude.{◌≡◌, true, length};
 ghost use Rattle.records.specs.Executions.{turns_exchanged, locked_twice};
 ghost use Rattle.executions.specs.Table.{table, stand, Whatever};

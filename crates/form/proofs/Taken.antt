@@ -1,6 +1,6 @@
 -- Each of the turns 1 to N is the turn of exactly one of the N capitals, where no rule on fields or turns is broken.
 use Rattle.std.proofs.Common.{◌≡◌, ℕ, zero, suc, ◌+◌, ◌<◌, ◌≤◌, Bool, true, false, cond, ◌&&◌, eqb, ltb, leb, ◌⊎◌, List, length, filter, sym, refl, ◌∙◌, subst, inl, inr, ⊎_elim, arith}
-use Rattle.std.proofs.lemmas.Bool.{both_ways, cases_Bool, cases_eq, cases_order, not-false, and_parts, or_parts, eqb-true, eqb-false, eq-eqb, ltb-false, lt-leb, le-ltb}
+use Rattle.std.proofs.lemmas.Bool.{both_ways, cases_Bool, cases_eq, cases_order, and_parts, or_parts, eqb-true, eqb-false, eq-eqb, ltb-false, lt-leb, le-ltb}
 use Rattle.std.proofs.lemmas.Bool.Decides.{nat_tests}
 use Rattle.records.specs.declared.Record.{Record}
 use Rattle.records.specs.First.{some, Clear}

@@ -1,5 +1,5 @@
 -- 17: the life of a thread, along the turns.
-use Rattle.std.specs.Prelude.{ℕ, Bool, true, false, cond, not, ◌&&◌, ◌||◌, List, is_some, Some, None, codes, Option, ◌==◌}
+use Rattle.std.specs.Prelude.{ℕ, Bool, cond, not, ◌&&◌, ◌||◌, List, is_some, Some, None, codes, Option, ◌==◌}
 use Rattle.records.specs.declared.Record.{Record}
 use Rattle.records.specs.First.{some}
 use Rattle.records.specs.Letters.{letter, among}

@@ -1,5 +1,5 @@
 -- The rules that are looked for along the list of records: for each, whether the record at k breaks it.
-use Rattle.std.specs.Prelude.{ℕ, zero, suc, Bool, true, false, cond, not, ◌&&◌, ◌||◌, List, length, Some, None, codes, filter, Option, ◌==◌, nat_le, nat_lt}
+use Rattle.std.specs.Prelude.{ℕ, zero, suc, Bool, false, cond, not, ◌&&◌, ◌||◌, List, length, Some, None, codes, filter, Option, ◌==◌, nat_le, nat_lt}
 use Rattle.records.specs.declared.Record.{Record}
 use Rattle.records.specs.First.{some}
 use Rattle.records.specs.Letters.{letter, among, is_capital, is_plain, is_volatile, is_read, is_write}

@@ -4,6 +4,8 @@
 // answers the first record that breaks it. Rules 11 to 16 go along the list, 17 and 18 along the turns. A later rule
 // may lean on what an earlier one has ruled out (an index that rule 12 keeps in range), which its `requires` says;
 // `check_form` asks nothing of anybody. What follows of a case in form is in specs/Laws.
+#![tactic(auto)]
+
 ghost use Rattle.std.specs.Prelude.{◌≡◌, IfOk};
 ghost use Rattle.form.specs.Form.{form_refusal, refusal_in};
 ghost use Rattle.form.specs.Layouts.{starts_of};

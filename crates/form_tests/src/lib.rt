@@ -1,6 +1,8 @@
 // The form check on examples: for each rule records that just pass and records that just break it.
 //
 // The expected answers were worked out by hand from docs/FORM.md. (0, n) stands for "in form, n records".
+#![tactic(auto)]
+
 use case::checked::CheckedCase;
 use records::Record;
 

@@ -1,4 +1,6 @@
 // The judge: reads a case and its evidence, and writes the verdict on them.
+#![tactic(auto)]
+
 use anyhow::anyhow;
 use console::options::{Options, complain, read_options};
 use console::words::explain;

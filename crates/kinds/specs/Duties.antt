@@ -29,7 +29,7 @@ module _ (k : CheckedCase) where
   certificate-sound js e = ∣ (js, e) ∣₁
 
   pub run_short : (is : List Item) (s : RunState) → reached (run_machine (threads k)) is ≡ Ok s → length is ≤ 8192
-  run_short is s e = let n = few.run_items_lem (records_of k) is s (sized k) e in omega arith
+  run_short is s e = let n = few.of_runs (records_of k) is s (sized k) e in omega arith
 
   pub certificate-short : (js : List Item) (s : OrderState) → reached (certificate_machine (threads k)) js ≡ Ok s → length js ≤ 8192
-  certificate-short js s e = let n = few.certificate_items_lem (records_of k) js s (sized k) e in omega arith
+  certificate-short js s e = let n = few.of_certificates (records_of k) js s (sized k) e in omega arith

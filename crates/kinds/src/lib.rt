@@ -9,6 +9,8 @@
 // case that the model allows has some, and no case takes more than 8,192 items. What is proved of dockets follows from
 // the laws and the three calls alone, so it holds of every kind that comes later. Whoever writes one gives the four ghost
 // members, the three calls and the laws, and changes nothing here; `bounded` of crates/machines/proofs/Feeds is what `short` mostly wants.
+#![tactic(auto)]
+
 ghost use Rattle.std.specs.Prelude.{◌≡◌, ◌≤◌, true, List, length, Ok, OnErr};
 ghost use Rattle.records.specs.declared.Item.{Item};
 ghost use Rattle.case.specs.declared.checked.CheckedCase.{CheckedCase};

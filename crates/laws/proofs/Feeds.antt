@@ -1,5 +1,5 @@
 -- What the items that a machine takes keep and bring, and the machine before the last of them.
-use Rattle.std.proofs.Common.{◌≡◌, ℕ, Bool, true, false, List, [], ◌∷◌, ◌++◌, Some, None, Ok, Err, Option, Result, sym, refl, ap, ◌∙◌, subst, subst₂, append_assoc, append-nil, arith}
+use Rattle.std.proofs.Common.{◌≡◌, ℕ, List, [], ◌∷◌, ◌++◌, Some, None, Ok, Err, Option, Result, sym, refl, ap, ◌∙◌, subst, subst₂, append_assoc, append-nil}
 use Rattle.records.specs.declared.Item.{Item}
 use Rattle.machines.specs.Machine.{feed}
 use Rattle.machines.proofs.Feeds.{ok_inj, not_ok, refused}

@@ -1,5 +1,5 @@
 -- The next element of a list, after its first n; and what holds of each element and those before it.
-use Rattle.std.proofs.Common.{◌≡◌, ℕ, zero, suc, List, [], ◌∷◌, ◌++◌, take, drop, Some, None, Option, ap, subst, arith}
+use Rattle.std.proofs.Common.{◌≡◌, ℕ, zero, suc, List, [], ◌∷◌, ◌++◌, take, drop, Some, ap, subst, arith}
 use mathlib.Core.List.{nil≢cons}
 use Rattle.std.specs.List.{slice_get}
 

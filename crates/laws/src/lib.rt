@@ -2,6 +2,8 @@
 //
 // The machines of crates/machines are defined step by step; specs/Runs and specs/Orders say what holds of every list of
 // items that they take without following the steps: what an item does is told by what came before it. Nothing here runs.
+#![tactic(auto)]
+
 ghost use Rattle.std.specs.Prelude.{◌≡◌, true, length};
 ghost use Rattle.laws.specs.Orders.{OrderLaw};
 ghost use Rattle.laws.specs.Runs.{RunLaws};

@@ -1,11 +1,10 @@
 -- A list of items put to a machine one by one: what is left of it gives the outcome.
-use Rattle.std.proofs.Common.{◌≡◌, ℕ, suc, ◌+◌, ◌<◌, ◌≤◌, Bool, true, false, List, [], ◌∷◌, ◌++◌, length, get_or, take, drop, Some, None, Ok, Err, Option, Result, sym, refl, ap, ◌∙◌, add-zero, add-suc, suc-add, zero-add, add-one, take-append-drop, length-take-le}
+use Rattle.std.proofs.Common.{◌≡◌, ℕ, suc, ◌+◌, ◌<◌, ◌≤◌, List, [], ◌∷◌, ◌++◌, length, get_or, take, drop, Some, None, Ok, Err, Result, sym, ap, ◌∙◌, add-zero, add-suc, suc-add, zero-add, add-one, take-append-drop, length-take-le}
 use Rattle.std.proofs.lemmas.List.{drop_more, drop_all}
 use Rattle.records.specs.declared.Item.{Item}
-use Rattle.records.specs.Refusals.{Refusal}
 use Rattle.machines.specs.Machine.{Machine, feed, reached, ended, completes, or_refused, refused_from, refusal_of, answer, moved}
-use Rattle.machines.specs.Outcomes.{Outcome, refused, outcome_of, outcome}
-use Rattle.machines.proofs.Feeds.{not_ok, Stepped, stepped}
+use Rattle.machines.specs.Outcomes.{refused, outcome_of, outcome}
+use Rattle.machines.proofs.Feeds.{not_ok, stepped}
 use Rattle.machines.proofs.Steps.{refused_by_lem}
 
 -- in the state s, after i items

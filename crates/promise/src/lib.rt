@@ -9,6 +9,8 @@
 // - the case has complete evidence exactly when the kind's model allows it (`model`);
 // - it has a complete run exactly when it has a complete certificate (`agree`), and the evidence is converted into the list
 //   that is defined from it, which is complete evidence of the other kind, or refused with nothing written (`converts`).
+#![tactic(auto)]
+
 ghost use Rattle.std.specs.Prelude.{◌≡◌, ◌≤◌, length, drop, is_ok, IfOk, IfErr, OnOk, nat_le};
 ghost use Rattle.agreement.specs.Agreement.{Agreement};
 ghost use Rattle.docket.specs.Plain.{empty};
@@ -76,15 +78,15 @@ pub fn examine_and_convert<K: Evidence>(
 ) -> Served<K>
     ensures room { is_ok result.docket ≡ nat_le (length calls.now) (length answers.old) }
     ensures untouched { IfErr result.docket (λ k. (k ≡ checker) × (held.new ≡ held.old) × (answers.new ≡ answers.old)) }
-    ensures answers { OnOk result.docket (Answered (machine case.now) number (desk empty held.old) calls.now answers.new) }
+    ensures answers { OnOk result.docket (Answered (K.machine case.now) number (desk empty held.old) calls.now answers.new) }
     ensures rest { drop (length calls.now) answers.new ≡ drop (length calls.now) answers.old }
-    ensures rulings { OnOk result.docket (RuledOnItems (machine case.now) number (desk empty held.old) calls.now answers.new) }
-    ensures tickets { OnOk result.docket (SlotsLeft (machine case.now) number (desk empty held.old) calls.now held.new) }
+    ensures rulings { OnOk result.docket (RuledOnItems (K.machine case.now) number (desk empty held.old) calls.now answers.new) }
+    ensures tickets { OnOk result.docket (SlotsLeft (K.machine case.now) number (desk empty held.old) calls.now held.new) }
     ensures returned { OnOk result.docket (TidySlots held.old calls.now held.new) }
-    ensures counts { IfOk result.docket (λ d. CountsLeft (machine case.now) number (desk empty held.old) calls.now d.counts) }
+    ensures counts { IfOk result.docket (λ d. CountsLeft (K.machine case.now) number (desk empty held.old) calls.now d.counts) }
     ensures balanced { IfOk result.docket (λ d. Balanced d.counts) }
     ensures single { IfOk result.docket (λ d. d.counts.«open» ≤ 1) }
-    ensures model { ByEvidence (machine case.now) (allows case.now) }
+    ensures model { ByEvidence (K.machine case.now) (K.allows case.now) }
     ensures agree { Agreement }
     ensures converts { Converts case.now evidence.now out.old out.new result.converted direction }
 {

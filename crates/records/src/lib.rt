@@ -6,6 +6,8 @@
 //
 // Whoever adds a letter adds it in `Record::action`, in the tests below, and in specs/Letters.antt: the contracts
 // tie the two together.
+#![tactic(auto)]
+
 ghost use Rattle.std.specs.Prelude.{◌≡◌};
 ghost use Rattle.records.specs.Letters.{is_capital, is_plain, is_volatile, is_read, is_write};
 

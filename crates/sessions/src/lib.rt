@@ -4,4 +4,6 @@
 // proved from the contracts of the docket's own calls alone, by the plain docket that the docket stands for (specs/Plain and
 // specs/Standing of the crate docket). specs/Examinations says what an examination comes to. Lists of calls in any mixture
 // are in the module work of the crate docket.
+#![tactic(auto)]
+
 pub mod examination;

@@ -17,6 +17,8 @@
 // sheet in specs/Files and the `Row` of that file in `row`, and the contracts tie the two together. Whoever adds a file
 // gives it a sheet and a `Row`. Whoever needs another order of the refusals changes specs/Reading first: the proofs then
 // say where the code differs.
+#![tactic(auto)]
+
 ghost use Rattle.std.specs.Prelude.{◌≡◌, length, take, IfOk, OnOk};
 ghost use Rattle.text.specs.Faults.{answered};
 ghost use Rattle.text.specs.Files.{case_sheet, case_rows, case_text, case_reading, record_of, evidence_sheet, evidence_rows, evidence_text, evidence_reading, item_of};

@@ -3,6 +3,8 @@
 // The files in data/ come from Python's csv module, the sqlite3 shell in csv mode and mawk; each is read and written back,
 // and the bytes must be the same. The table of wrong texts says for each the number and the line of its refusal. The file
 // stdout was derived from the rules by hand.
+#![tactic(auto)]
+
 ghost use Rattle.text_tests.specs.Examples.{Examples};
 
 use records::{Item, Record};

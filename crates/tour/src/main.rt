@@ -2,6 +2,8 @@
 //
 // The program walkthrough takes store buffering through the form check, both machines and both conversions, in chapters 1 to
 // 4. This one goes on with chapters 5 and 6.
+#![tactic(auto)]
+
 mod desk;
 mod files;
 mod items;

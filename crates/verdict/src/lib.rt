@@ -9,6 +9,8 @@
 // complete, and then the model allows the case.
 //
 // Nothing here allocates: records and items are read into tables of their greatest size.
+#![tactic(auto)]
+
 ghost use Rattle.std.specs.Prelude.{◌≡◌, length, MatchResult};
 ghost use Rattle.case.specs.Cases.{records_of};
 ghost use Rattle.machines.specs.Outcomes.{outcome};
@@ -110,7 +112,7 @@ fn over_docket<K: Evidence + Drop>(
     case: &CheckedCase,
     items: &[Item],
 ) -> Judgement
-    ensures value { result ≡ ruled layer (outcome (machine case.now) items.now) }
+    ensures value { result ≡ ruled layer (outcome (K.machine case.now) items.now) }
 {
     let mut docket = Docket::new(checker, case, 0);
     match examine(&mut docket, items) {

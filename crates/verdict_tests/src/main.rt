@@ -2,6 +2,8 @@
 //
 // The tables stand in data/; data/README.txt says how they are written. Each row has the text of a case, the text of its
 // evidence and the row of the verdict on them, which was worked out by hand from docs/. The file stdout has every row ok.
+#![tactic(auto)]
+
 mod bench;
 mod notation;
 

@@ -2,6 +2,8 @@
 //
 // The execution is store buffering: two threads each write a location of their own and then read the other's, and both
 // reads see the default write. Each chapter below is one layer of the judge; a layer that is added adds a chapter.
+#![tactic(auto)]
+
 mod certificate;
 mod conversion;
 mod run;

@@ -3,18 +3,18 @@ use Rattle.std.proofs.Common.{sym}
 use Rattle.records.proofs.Firsts.{none-clear}
 use Rattle.form.proofs.check_form.Goals as goal
 
-pub first-mixed-requires : goal.first-mixed-requires
-first-mixed-requires c = none-clear _ _ (sym c.in-default-first-malformed.ensures)
+pub first_mixed-requires : goal.first_mixed-requires
+first_mixed-requires c = none-clear _ _ (sym c.in_default-first_malformed.ensures)
 
-pub layout-of-layout-requires : goal.layout-of-layout-requires
-layout-of-layout-requires c = none-clear _ _ (sym c.in-default.ensures)
+pub layout_of-layout-requires : goal.layout_of-layout-requires
+layout_of-layout-requires c = none-clear _ _ (sym c.in_default.ensures)
 
-pub first-unknown-requires : goal.first-unknown-requires
-first-unknown-requires c = record { grouped = none-clear _ _ (sym c.in-default.ensures); layout = c.layout-of-layout.ensures }
+pub first_unknown-requires : goal.first_unknown-requires
+first_unknown-requires c = record { grouped = none-clear _ _ (sym c.in_default.ensures); layout = c.layout_of-layout.ensures }
 
-pub first-misframed-requires : goal.first-misframed-requires
-first-misframed-requires c = none-clear _ _ (sym c.in-default.ensures)
+pub first_misframed-requires : goal.first_misframed-requires
+first_misframed-requires c = none-clear _ _ (sym c.in_default.ensures)
 
-pub check-turns-requires : goal.check-turns-requires
-check-turns-requires c =
-    record { grouped = none-clear _ _ (sym c.in-default.ensures); formed = none-clear _ _ (sym c.in-default-first-malformed.ensures) }
+pub check_turns-requires : goal.check_turns-requires
+check_turns-requires c =
+    record { grouped = none-clear _ _ (sym c.in_default.ensures); formed = none-clear _ _ (sym c.in_default-first_malformed.ensures) }

@@ -28,10 +28,10 @@ returns c =
     let out = c.args.out.now in let text = report_text header front a b in
     let n = report_length header front a b in
     let w0 = wrote_none out 0 in
-    let w1 = wrote-line w0 header _ c.put-line-at.result (omega arith) c.put-line-at.ensures.bytes (omega (arith, c.put-line-at.ensures.end)) in
-    let w2 = wrote_field w1 front comma _ _ (omega arith) c.put-cell-at.ensures.bytes c.put-cell-at.ensures.end in
-    let w3 = wrote-cell w2 a comma _ _ (omega arith) c.put-number-cell-at.ensures.bytes c.put-number-cell-at.ensures.end in
-    let w4 = wrote-cell w3 b cr _ _ (omega arith) c.put-number-cell-at-2.ensures.bytes c.put-number-cell-at-2.ensures.end in
+    let w1 = wrote-line w0 header _ c.put_line-at.result (omega arith) c.put_line-at.ensures.bytes (omega (arith, c.put_line-at.ensures.end)) in
+    let w2 = wrote_field w1 front comma _ _ (omega arith) c.put_cell-at.ensures.bytes c.put_cell-at.ensures.end in
+    let w3 = wrote-cell w2 a comma _ _ (omega arith) c.put_number_cell-at.ensures.bytes c.put_number_cell-at.ensures.end in
+    let w4 = wrote-cell w3 b cr _ _ (omega arith) c.put_number_cell-at-2.ensures.bytes c.put_number_cell-at-2.ensures.end in
     let w = wrote_byte w4 lf (omega arith) (omega arith) in
     record {
       answer = fits_all text (length out) _ (omega arith) (omega arith);

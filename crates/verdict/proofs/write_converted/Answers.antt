@@ -10,15 +10,15 @@ returns-in-Ok c =
     let text = delivers _ _ _ _ c.in-Ok.count c.in-Ok.ensures.loaded in
     let out = c.args.out.now in
     record {
-      answer = c.write-examined.ensures.answer ∙ ap (λ s. fitting s (length out)) text;
-      after = c.write-examined.ensures.after ∙ ap (λ s. written (answered c.write-examined.result) s out) text;
+      answer = c.write_examined.ensures.answer ∙ ap (λ s. fitting s (length out)) text;
+      after = c.write_examined.ensures.after ∙ ap (λ s. written (answered c.write_examined.result) s out) text;
     }
 
 pub returns-in-Err : goal.returns-in-Err
 returns-in-Err c =
-    let text = refusal-delivers c.args.case-text.now c.args.evidence-text.now _ c.in-Err.ensures.loaded in
+    let text = refusal-delivers c.args.case_text.now c.args.evidence_text.now _ c.in-Err.ensures.loaded in
     let out = c.args.out.now in
     record {
-      answer = c.write-judgement.ensures.answer ∙ ap (λ s. fitting s (length out)) text;
-      after = c.write-judgement.ensures.after ∙ ap (λ s. written (answered c.write-judgement.result) s out) text;
+      answer = c.write_judgement.ensures.answer ∙ ap (λ s. fitting s (length out)) text;
+      after = c.write_judgement.ensures.after ∙ ap (λ s. written (answered c.write_judgement.result) s out) text;
     }

@@ -21,25 +21,25 @@ delivered_else : (rs : List Record) (is : List Item) (j : Judgement) → j ≡ e
 delivered_else rs is j e a =
     ap verdict_text e ∙ ap (λ b. cond b (evidence_text (other_kind rs is)) (verdict_text (examined_as rs is))) (sym a ∙ ap is_allowed e)
 
-pub write-other-kind-requires : goal.write-other-kind-requires
-write-other-kind-requires c =
+pub write_other_kind-requires : goal.write_other_kind-requires
+write_other_kind-requires c =
     let said = c.examined-judgement.ensures.value in
-    sym (allowed-examined (records_of c.args.case.now) c.args.items.now) ∙ ap is_allowed (sym said) ∙ sym c.if-is-allowed.ensures.value
+    sym (allowed-examined (records_of c.args.case.now) c.args.items.now) ∙ ap is_allowed (sym said) ∙ sym c.if-is_allowed.ensures.value
 
-pub returns-then-is-allowed : goal.returns-then-is-allowed
-returns-then-is-allowed c =
-    let text = delivered-allowed (records_of c.args.case.now) c.args.items.now _ c.examined-judgement.ensures.value (sym c.if-is-allowed.ensures.value) in
+pub returns-then-is_allowed : goal.returns-then-is_allowed
+returns-then-is_allowed c =
+    let text = delivered-allowed (records_of c.args.case.now) c.args.items.now _ c.examined-judgement.ensures.value (sym c.if-is_allowed.ensures.value) in
     let out = c.args.out.now in
     record {
-      answer = c.write-other-kind.ensures.answer ∙ ap (λ s. fitting s (length out)) text;
-      after = c.write-other-kind.ensures.after ∙ ap (λ s. written (answered c.write-other-kind.result) s out) text;
+      answer = c.write_other_kind.ensures.answer ∙ ap (λ s. fitting s (length out)) text;
+      after = c.write_other_kind.ensures.after ∙ ap (λ s. written (answered c.write_other_kind.result) s out) text;
     }
 
 pub returns : goal.returns
 returns c =
-    let text = delivered_else (records_of c.args.case.now) c.args.items.now _ c.examined-judgement.ensures.value (sym c.if-is-allowed.ensures.value) in
+    let text = delivered_else (records_of c.args.case.now) c.args.items.now _ c.examined-judgement.ensures.value (sym c.if-is_allowed.ensures.value) in
     let out = c.args.out.now in
     record {
-      answer = c.write-judgement.ensures.answer ∙ ap (λ s. fitting s (length out)) text;
-      after = c.write-judgement.ensures.after ∙ ap (λ s. written (answered c.write-judgement.result) s out) text;
+      answer = c.write_judgement.ensures.answer ∙ ap (λ s. fitting s (length out)) text;
+      after = c.write_judgement.ensures.after ∙ ap (λ s. written (answered c.write_judgement.result) s out) text;
     }

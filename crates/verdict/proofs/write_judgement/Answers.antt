@@ -17,6 +17,6 @@ returns c =
     let text = report_of c.args.judgement c.front.result.now c.numbers.result c.front.ensures.value c.numbers.ensures.value in
     let out = c.args.out.now in
     record {
-      answer = c.write-report.ensures.answer ∙ ap (λ s. fitting s (length out)) text;
-      after = c.write-report.ensures.after ∙ ap (λ s. written (answered c.write-report.result) s out) text;
+      answer = c.write_report.ensures.answer ∙ ap (λ s. fitting s (length out)) text;
+      after = c.write_report.ensures.after ∙ ap (λ s. written (answered c.write_report.result) s out) text;
     }

@@ -10,7 +10,7 @@ returns c =
     let said = c.judge.ensures.value in
     let out = c.args.out.now in
     record {
-      answer = c.write-judgement.ensures.answer ∙ ap (λ j. fitting (verdict_text j) (length out)) said;
-      after = c.write-judgement.ensures.after ∙ ap (λ j. written (answered c.write-judgement.result) (verdict_text j) out) said;
+      answer = c.write_judgement.ensures.answer ∙ ap (λ j. fitting (verdict_text j) (length out)) said;
+      after = c.write_judgement.ensures.after ∙ ap (λ j. written (answered c.write_judgement.result) (verdict_text j) out) said;
       allowed = c.judge.ensures.allowed;
     }

@@ -20,33 +20,33 @@ module _ (case : CheckedCase) (run : List Item) (complete : CompleteRun (records
   few : length (moves_from (threads case) run 8 0) + length (order_along (threads case) run (λ _. start)) ≤ 4352
   few = let b = both in let f = to_certificate_lem.items_few (records_of case) run (sized (records_of case) case.formed) complete in omega arith
 
-pub write-moves-moves-requires : goal.write-moves-moves-requires
-write-moves-moves-requires c =
+pub write_moves-moves-requires : goal.write_moves-moves-requires
+write_moves-moves-requires c =
     let f = few c.args.case.now c.args.run.now c.requires.complete in
     let r = c.requires.room in
     record { room = omega arith }
 
-pub write-order-items-requires : goal.write-order-items-requires
-write-order-items-requires c =
+pub write_order-items-requires : goal.write_order-items-requires
+write_order-items-requires c =
     let f = few c.args.case.now c.args.run.now c.requires.complete in
     let r = c.requires.room in
-    let k = c.write-moves-moves.auto.out in
-    let m = c.write-moves-moves.ensures.upto in
+    let k = c.write_moves-moves.auto.out in
+    let m = c.write_moves-moves.ensures.upto in
     record { room = omega arith }
 
-pub overflow-cast-result : goal.overflow-cast-result
-overflow-cast-result c =
+pub overflow_cast-result : goal.overflow_cast-result
+overflow_cast-result c =
     let f = few c.args.case.now c.args.run.now c.requires.complete in
-    let m = c.write-moves-moves.ensures.upto in
-    let o = c.write-order-items.ensures.upto in
-    let n : c.write-order-items.result ≤ 4352 = omega arith in
+    let m = c.write_moves-moves.ensures.upto in
+    let o = c.write_order-items.ensures.upto in
+    let n : c.write_order-items.result ≤ 4352 = omega arith in
     search rules
 
-pub overflow-cast-result-2 : goal.overflow-cast-result-2
-overflow-cast-result-2 c =
+pub overflow_cast-result-2 : goal.overflow_cast-result-2
+overflow_cast-result-2 c =
     let f = few c.args.case.now c.args.run.now c.requires.complete in
-    let m = c.write-moves-moves.ensures.upto in
-    let n : c.write-moves-moves.result ≤ 4352 = omega arith in
+    let m = c.write_moves-moves.ensures.upto in
+    let n : c.write_moves-moves.result ≤ 4352 = omega arith in
     search rules
 
 pub returns : goal.returns
@@ -59,10 +59,10 @@ returns c =
     let f = few case run c.requires.complete in
     let b = both case run c.requires.complete in
     let r = c.requires.room in
-    let m = c.write-moves-moves.ensures.upto in
-    let o = c.write-order-items.ensures.upto in
+    let m = c.write_moves-moves.ensures.upto in
+    let o = c.write_order-items.ensures.upto in
     record {
-      list = c.write-order-items.ensures.list ∙ (λ i. put (m i) order (c.write-moves-moves.ensures.list i))
+      list = c.write_order-items.ensures.list ∙ (λ i. put (m i) order (c.write_moves-moves.ensures.list i))
           ∙ put_both moves order out (omega arith)
           ∙ ap (λ w. w ++ drop (length w) out) (sym (written-along (records_of case) run c.requires.complete));
       items = omega arith;

@@ -11,7 +11,7 @@ loop-place-preserved g c =
     let m = g.K.Evidence.machine c.args.case.now in
     let s = g.K.Evidence.state c.args.case.now c.loop-place.checker in
     let s' = g.K.Evidence.state c.args.case.now c.put.new.self in
-    let e = c.in-default.ensures in
+    let e = c.in_default.ensures in
     examining_more m c.args.evidence.now s c.loop-place.place c.loop-place.invariant _ c.loop-place-test.true s' (taken _ s s' e.answer e.after)
 
 pub returns-in-Err : goal.returns-in-Err

@@ -7,30 +7,30 @@ use Rattle.conversions.proofs.Fronts.{put-none}
 use Rattle.conversions.proofs.Staying.{stay-within, passed-are, length-passes, width-drop, no_moves}
 use Rattle.conversions.proofs.moves.moves_of_action.Goals as goal
 
-pub returns-in-default : goal.returns-in-default
-returns-in-default c =
-    let e = no_moves c.args.thread c.args.action (own_of c.args.row.now) c.in-default.not-Read in
+pub returns-in_default : goal.returns-in_default
+returns-in_default c =
+    let e = no_moves c.args.thread c.args.action (own_of c.args.row.now) c.in_default.not-Read in
     let n = put-none c.args.at c.args.out.now _ (sym e) in
     record { list = n.0; upto = n.1 }
 
-pub slice-bounds-pass-count : goal.slice-bounds-pass-count
-slice-bounds-pass-count c = let l = stay-within c.in-Read.location c.waiting-waiting.result.now in omega (arith, c.stay-at-stay.ensures)
+pub slice_bounds-pass-count : goal.slice_bounds-pass-count
+slice_bounds-pass-count c = let l = stay-within c.in-Read.location c.waiting-waiting.result.now in omega (arith, c.stay_at-stay.ensures)
 
-pub offset-bounds-waiting-stay : goal.offset-bounds-waiting-stay
-offset-bounds-waiting-stay c =
-    let l : c.stay-at-stay.result ≤ length c.waiting-waiting.result.now = slice-bounds-pass-count c in
+pub offset_bounds-waiting-stay : goal.offset_bounds-waiting-stay
+offset_bounds-waiting-stay c =
+    let l : c.stay_at-stay.result ≤ length c.waiting-waiting.result.now = slice_bounds-pass-count c in
     search rules
 
-pub slice-bounds-pass-start : goal.slice-bounds-pass-start
-slice-bounds-pass-start c =
-    let l : c.stay-at-stay.result ≤ length c.waiting-waiting.result.now = slice-bounds-pass-count c in
+pub slice_bounds-pass-start : goal.slice_bounds-pass-start
+slice_bounds-pass-start c =
+    let l : c.stay_at-stay.result ≤ length c.waiting-waiting.result.now = slice_bounds-pass-count c in
     search rules
 
 pub pass-requires : goal.pass-requires
 pass-requires c =
     let row = c.args.row.now in
     let x = c.in-Read.location in
-    let p = passed-are c.waiting-waiting.result.now (window row) x c.stay-at-stay.result c.waiting-waiting.ensures c.stay-at-stay.ensures in
+    let p = passed-are c.waiting-waiting.result.now (window row) x c.stay_at-stay.result c.waiting-waiting.ensures c.stay_at-stay.ensures in
     let w = ap width p in
     let n = ap length p in
     let d = width-drop (stay x (window row)) (window row) in
@@ -44,7 +44,7 @@ pub returns : goal.returns
 returns c =
     let row = c.args.row.now in
     let t = c.args.thread in
-    let p = passed-are c.waiting-waiting.result.now (window row) c.in-Read.location c.stay-at-stay.result c.waiting-waiting.ensures c.stay-at-stay.ensures in
+    let p = passed-are c.waiting-waiting.result.now (window row) c.in-Read.location c.stay_at-stay.result c.waiting-waiting.ensures c.stay_at-stay.ensures in
     let m = ap (λ a. moves_of t a (own_of row)) c.in-Read.is in
     let e : moves_before t row.next (drop (stay c.in-Read.location (window row)) (window row)) ≡ moves_of t c.args.action (own_of row) = sym m in
     record {

@@ -8,13 +8,13 @@ use Rattle.conversions.specs.Rows.{own_of}
 use Rattle.conversions.proofs.Fronts.{put-none}
 use Rattle.conversions.proofs.moves.moves_of_item.Goals as goal
 
-pub returns-in-default : goal.returns-in-default
-returns-in-default c =
+pub returns-in_default : goal.returns-in_default
+returns-in_default c =
     let t = c.args.thread in
     let l = thread (threads c.args.case.now) t in
     let s = own_of c.args.row.now in
-    let n = put-none c.args.at c.args.out.now _ (ap (λ o. step_moves l t o s) c.in-default.ensures) in
-    record { after = ap (λ o. step_own l t o s) c.in-default.ensures; list = n.0; upto = n.1 }
+    let n = put-none c.args.at c.args.out.now _ (ap (λ o. step_moves l t o s) c.in_default.ensures) in
+    record { after = ap (λ o. step_own l t o s) c.in_default.ensures; list = n.0; upto = n.1 }
 
 pub returns-then-performer-thread : goal.returns-then-performer-thread
 returns-then-performer-thread c =

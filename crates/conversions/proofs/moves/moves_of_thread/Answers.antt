@@ -17,8 +17,8 @@ loop-item-init c =
     leads-same c.args.at c.args.out.now whole c.args.at c.args.out.now
     (ap (moves_along l t c.args.run.now) (sym c.fresh-row.ensures)) (leads-start c.args.at c.args.out.now whole)
 
-pub moves-of-item-at-requires : goal.moves-of-item-at-requires
-moves-of-item-at-requires c =
+pub moves_of_item-at-requires : goal.moves_of_item-at-requires
+moves_of_item-at-requires c =
     let t = c.args.thread in
     let l = thread (threads c.args.case.now) t in
     record {
@@ -34,7 +34,7 @@ loop-item-preserved c =
     item-more (moves_along l t) (λ i. step_moves l t (run_item i)) (λ i. step_own l t (run_item i)) (λ i is s. refl)
     c.args.run.now start c.args.at c.args.out.now c.requires.room
     c.loop-item.item-index (own_of c.loop-item.row) _ _ _ c.loop-item-test.true c.loop-item.invariant
-    _ _ _ c.moves-of-item-at.ensures.after c.moves-of-item-at.ensures.list c.moves-of-item-at.ensures.upto
+    _ _ _ c.moves_of_item-at.ensures.after c.moves_of_item-at.ensures.list c.moves_of_item-at.ensures.upto
 
 pub returns : goal.returns
 returns c =

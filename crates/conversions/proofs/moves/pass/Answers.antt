@@ -13,29 +13,29 @@ module _ (c : goal.In-loop-n) where
 pub loop-n-init : goal.loop-n-init
 loop-n-init c = left-all c.args.thread c.args.place c.args.passed.now c.args.at c.args.out.now c.requires.before
 
-pub offset-bounds-passed-n : goal.offset-bounds-passed-n
-offset-bounds-passed-n c = let w = c.loop-n.invariant.within in search rules
+pub offset_bounds-passed-n : goal.offset_bounds-passed-n
+offset_bounds-passed-n c = let w = c.loop-n.invariant.within in search rules
 
 pub bounds-passed-n : goal.bounds-passed-n
 bounds-passed-n c = let w = c.loop-n.invariant.within in omega arith
 
-pub overflow-add-before : goal.overflow-add-before
-overflow-add-before c =
+pub overflow_add-before : goal.overflow_add-before
+overflow_add-before c =
     let w = wide c in
     let l = left-low c.args.thread c.args.place c.args.passed.now c.args.at c.args.out.now c.requires.before _ _ _ _ c.loop-n.invariant in
     search rules
 
-pub overflow-sub-before : goal.overflow-sub-before
-overflow-sub-before c = wide c
+pub overflow_sub-before : goal.overflow_sub-before
+overflow_sub-before c = wide c
 
-pub offset-bounds-out-at : goal.offset-bounds-out-at
-offset-bounds-out-at c = let l = within c in search rules
+pub offset_bounds-out-at : goal.offset_bounds-out-at
+offset_bounds-out-at c = let l = within c in search rules
 
 pub bounds-out-at : goal.bounds-out-at
 bounds-out-at c = within c
 
-pub overflow-add-at : goal.overflow-add-at
-overflow-add-at c = let l = within c in search rules
+pub overflow_add-at : goal.overflow_add-at
+overflow_add-at c = let l = within c in search rules
 
 pub loop-n-preserved : goal.loop-n-preserved
 loop-n-preserved c =

@@ -9,8 +9,8 @@ use Rattle.conversions.proofs.moves.write_moves.Goals as goal
 pub loop-thread-init : goal.loop-thread-init
 loop-thread-init c = leads-start 0 c.args.out.now (moves_from (threads c.args.case.now) c.args.run.now 8 0)
 
-pub moves-of-thread-at-requires : goal.moves-of-thread-at-requires
-moves-of-thread-at-requires c =
+pub moves_of_thread-at-requires : goal.moves_of_thread-at-requires
+moves_of_thread-at-requires c =
     let cs = threads c.args.case.now in
     let run = c.args.run.now in
     record {
@@ -24,7 +24,7 @@ loop-thread-preserved c =
     let run = c.args.run.now in
     thread-more (moves_from cs run) (λ t. moves_along (thread cs t) t run start) (λ d t. refl) 0 c.args.out.now
     (let r = c.requires.room in omega arith) c.loop-thread.thread _ _ c.loop-thread-test.true c.loop-thread.invariant
-    _ _ c.moves-of-thread-at.ensures.list c.moves-of-thread-at.ensures.upto
+    _ _ c.moves_of_thread-at.ensures.list c.moves_of_thread-at.ensures.upto
 
 pub returns : goal.returns
 returns c =

@@ -6,4 +6,4 @@ use Rattle.conversions.proofs.order.come.Given as goal
 abbrev pub invariant-loop-k : goal.invariant-loop-k
 invariant-loop-k l =
     Leads l.initial.at l.initial.out (replicate l.count (come_of l.thread)) l.at l.out
-    (replicate (l.count - l.-k) (come_of l.thread))
+    (replicate (l.count - l._k) (come_of l.thread))

@@ -8,12 +8,12 @@ use Rattle.conversions.specs.Rows.{owns}
 use Rattle.conversions.proofs.Fronts.{put-none}
 use Rattle.conversions.proofs.order.order_of_item.Goals as goal
 
-pub returns-in-default : goal.returns-in-default
-returns-in-default c =
+pub returns-in_default : goal.returns-in_default
+returns-in_default c =
     let cs = threads c.args.case.now in
     let f = owns c.args.rows.now in
-    let n = put-none c.args.at c.args.out.now _ (ap (λ o. step_comes cs o f) c.in-default.ensures) in
-    record { after = ap (λ o. step_all cs o f) c.in-default.ensures; list = n.0; upto = n.1 }
+    let n = put-none c.args.at c.args.out.now _ (ap (λ o. step_comes cs o f) c.in_default.ensures) in
+    record { after = ap (λ o. step_all cs o f) c.in_default.ensures; list = n.0; upto = n.1 }
 
 pub come-requires-in-Drain : goal.come-requires-in-Drain
 come-requires-in-Drain c =

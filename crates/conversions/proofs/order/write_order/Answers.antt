@@ -17,8 +17,8 @@ loop-item-init c =
     (ap (order_along cs c.args.run.now) (sym (own_fresh 8 c.fresh-rows.result c.fresh-rows.ensures)))
     (leads-start c.args.at c.args.out.now whole)
 
-pub order-of-item-at-requires : goal.order-of-item-at-requires
-order-of-item-at-requires c =
+pub order_of_item-at-requires : goal.order_of_item-at-requires
+order_of_item-at-requires c =
     let cs = threads c.args.case.now in
     record {
       room = item_room (order_along cs) (λ i. step_comes cs (run_item i)) (λ i. step_all cs (run_item i)) (λ i is s. refl)
@@ -32,7 +32,7 @@ loop-item-preserved c =
     item-more (order_along cs) (λ i. step_comes cs (run_item i)) (λ i. step_all cs (run_item i)) (λ i is s. refl)
     c.args.run.now (λ _. start) c.args.at c.args.out.now c.requires.room
     c.loop-item.item-index (owns c.loop-item.rows) _ _ _ c.loop-item-test.true c.loop-item.invariant
-    _ _ _ c.order-of-item-at.ensures.after c.order-of-item-at.ensures.list c.order-of-item-at.ensures.upto
+    _ _ _ c.order_of_item-at.ensures.after c.order_of_item-at.ensures.list c.order_of_item-at.ensures.upto
 
 pub flush-requires : goal.flush-requires
 flush-requires c =

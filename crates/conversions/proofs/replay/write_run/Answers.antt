@@ -7,8 +7,8 @@ use Rattle.conversions.proofs.replay.write_run.Goals as goal
 pub loop-item-init : goal.loop-item-init
 loop-item-init c = replaying_none (threads c.args.case.now) c.args.certificate.now _ _ _ c.requires.complete (c.new-checker.ensures c.args.case.now) nexts-first
 
-pub write-item-at-requires : goal.write-item-at-requires
-write-item-at-requires c =
+pub write_item-at-requires : goal.write_item-at-requires
+write_item-at-requires c =
     record {
       room =
           replaying_room (threads c.args.case.now) c.args.certificate.now c.args.out.now _ _ _ _ _ c.loop-item.invariant _
@@ -19,10 +19,10 @@ pub loop-item-preserved : goal.loop-item-preserved
 loop-item-preserved c =
     replaying_more (threads c.args.case.now) c.args.certificate.now c.args.out.now _ _ _ _ _ c.loop-item.invariant _
     (omega (arith, c.requires.room, replayed-few c.args.case.now c.args.certificate.now c.requires.complete)) c.loop-item-test.true
-    _ _ _ _ c.write-item-at.ensures.list c.write-item-at.ensures.behind c.write-item-at.ensures.onward c.put.ensures.after
+    _ _ _ _ c.write_item-at.ensures.list c.write_item-at.ensures.behind c.write_item-at.ensures.onward c.put.ensures.after
 
-pub overflow-cast-result : goal.overflow-cast-result
-overflow-cast-result c =
+pub overflow_cast-result : goal.overflow_cast-result
+overflow_cast-result c =
     let h = replaying_all (threads c.args.case.now) c.args.certificate.now c.args.out.now _ _ _ _ _ c.loop-item.invariant c.loop-item-test.false in
     let few = replayed-few c.args.case.now c.args.certificate.now c.requires.complete in
     let n : c.loop-item.at ≡ length (replayed (threads c.args.case.now) c.args.certificate.now) = h.1 in

@@ -9,9 +9,9 @@ pub returns : goal.returns
 returns g c =
     let k = g.K.Evidence in
     let new = c.new-docket.ensures in
-    let done = c.work-off.ensures in
-    let room : c.work-off.result ≡ true = search rules in
-    let slots : c.work-off.new.held ≡ (worked (k.machine c.args.case.now) c.args.number (desk empty c.args.held.now) c.args.calls.now).held = search rules in
+    let done = c.work_off.ensures in
+    let room : c.work_off.result ≡ true = search rules in
+    let slots : c.work_off.new.held ≡ (worked (k.machine c.args.case.now) c.args.number (desk empty c.args.held.now) c.args.calls.now).held = search rules in
     record {
       room = search rules;
       untouched = tt;
@@ -20,7 +20,7 @@ returns g c =
       rulings = search rules;
       tickets = slots;
       returned = λ j t free. slots ∙ tidy-slots (k.machine c.args.case.now) c.args.number j c.args.held.now free c.args.calls.now t;
-      stands = stands_anew k.machine k.state c.new-docket.result c.work-off.new.docket c.args.case.now c.args.number c.args.held.now c.args.calls.now new.case new.number new.stands (done.stands room);
+      stands = stands_anew k.machine k.state c.new-docket.result c.work_off.new.docket c.args.case.now c.args.number c.args.held.now c.args.calls.now new.case new.number new.stands (done.stands room);
       case = done.case ∙ new.case;
       number = done.number ∙ new.number;
       counts = search rules;

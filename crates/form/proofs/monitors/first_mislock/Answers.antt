@@ -11,22 +11,22 @@ use Rattle.form.proofs.monitors.first_mislock.Goals as goal
 pub loop-n-init : goal.loop-n-init
 loop-n-init c = (λ k l. absurd (omega arith), fresh _ None None 16 (λ m. refl))
 
-pub loop-n-preserved-in-default : goal.loop-n-preserved-in-default
-loop-n-preserved-in-default c =
+pub loop-n-preserved-in_default : goal.loop-n-preserved-in_default
+loop-n-preserved-in_default c =
     let xs = c.args.records.now in
     let n = c.loop-n.n in
-    held-passes xs n blank (nobody_comes xs c.args.order.now c.requires.order n (omega arith) c.in-default.not-Some) c.loop-n.holders c.loop-n.invariant refl
+    held-passes xs n blank (nobody_comes xs c.args.order.now c.requires.order n (omega arith) c.in_default.not-Some) c.loop-n.holders c.loop-n.invariant refl
 
 pub bounds-records-k : goal.bounds-records-k
 bounds-records-k c = (comes c.args.records.now c.args.order.now c.requires.order c.loop-n.n (omega arith) c.in-Some.k c.in-Some.is).within
 
-pub loop-n-preserved-in-default-monitor : goal.loop-n-preserved-in-default-monitor
-loop-n-preserved-in-default-monitor c =
+pub loop-n-preserved-in_default-monitor : goal.loop-n-preserved-in_default-monitor
+loop-n-preserved-in_default-monitor c =
     let xs = c.args.records.now in
     let n = c.loop-n.n in
     let r = at xs c.in-Some.k in
     let t = comes xs c.args.order.now c.requires.order n (omega arith) c.in-Some.k c.in-Some.is in
-    held-passes xs n r t.is_turn c.loop-n.holders c.loop-n.invariant (not_asked (among r.letter (codes "LU")) r.target c.in-default-monitor.ensures)
+    held-passes xs n r t.is_turn c.loop-n.holders c.loop-n.invariant (not_asked (among r.letter (codes "LU")) r.target c.in_default-monitor.ensures)
 
 pub bounds-holders-m : goal.bounds-holders-m
 bounds-holders-m c =
@@ -38,8 +38,8 @@ bounds-holders-m-in-loop-n c =
     let t = comes c.args.records.now c.args.order.now c.requires.order c.loop-n.n (omega arith) c.in-Some.k c.in-Some.is in
     monitor_index c.args.records.now c.in-Some.k c.in-Some-monitor.m c.requires.formed t.within c.in-Some-monitor.ensures
 
-pub returns-then-locks-wrongly : goal.returns-then-locks-wrongly
-returns-then-locks-wrongly c =
+pub returns-then-locks_wrongly : goal.returns-then-locks_wrongly
+returns-then-locks_wrongly c =
     let xs = c.args.records.now in
     let n = c.loop-n.n in
     let r = at xs c.in-Some.k in
@@ -47,7 +47,7 @@ returns-then-locks-wrongly c =
     let which = c.in-Some-monitor.ensures in
     let small = monitor_index xs c.in-Some.k c.in-Some-monitor.m c.requires.formed t.within which in
     stops mislocks xs n c.args.all c.requires.all c.loop-n.invariant.0 c.in-Some.k t c.loop-n-test.true
-    (c.if-locks-wrongly.ensures ∙ sym (judged xs n r t.is_turn c.loop-n.holders c.loop-n.invariant c.in-Some-monitor.m which small))
+    (c.if-locks_wrongly.ensures ∙ sym (judged xs n r t.is_turn c.loop-n.holders c.loop-n.invariant c.in-Some-monitor.m which small))
 
 pub loop-n-preserved : goal.loop-n-preserved
 loop-n-preserved c =
@@ -57,8 +57,8 @@ loop-n-preserved c =
     let t = comes xs c.args.order.now c.requires.order n (omega arith) c.in-Some.k c.in-Some.is in
     let which = c.in-Some-monitor.ensures in
     let small = monitor_index xs c.in-Some.k c.in-Some-monitor.m c.requires.formed t.within which in
-    subst (λ h. Held xs (n + 1) (set c.loop-n.holders c.in-Some-monitor.m h)) (sym c.holder-after.ensures)
-    (held_more xs n r t.is_turn c.loop-n.holders c.loop-n.invariant c.in-Some-monitor.m which small c.if-locks-wrongly.ensures)
+    subst (λ h. Held xs (n + 1) (set c.loop-n.holders c.in-Some-monitor.m h)) (sym c.holder_after.ensures)
+    (held_more xs n r t.is_turn c.loop-n.holders c.loop-n.invariant c.in-Some-monitor.m which small c.if-locks_wrongly.ensures)
 
 pub returns : goal.returns
 returns c = goes_through mislocks c.args.records.now c.loop-n.n c.args.all c.requires.all c.loop-n.invariant.0 c.loop-n-test.false

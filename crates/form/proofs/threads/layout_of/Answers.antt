@@ -18,8 +18,8 @@ next_start c =
 pub loop-t-init : goal.loop-t-init
 loop-t-init c = (refl, λ u l. get_or-replicate 9 u 0 0 (omega arith) ∙ sym (below_none 0 u c.args.records.now (omega arith) (grouped c.args.records.now c.requires)))
 
-pub overflow-add-starts : goal.overflow-add-starts
-overflow-add-starts c =
+pub overflow_add-starts : goal.overflow_add-starts
+overflow_add-starts c =
     let xs = c.args.records.now in
     omega (arith, c.loop-t.invariant.1 c.loop-t.t (omega arith), c.tally-counts.ensures c.loop-t.t c.loop-t-test.true, below-within c.loop-t.t xs, few-records xs c.requires)
 

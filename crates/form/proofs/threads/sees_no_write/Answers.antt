@@ -22,19 +22,19 @@ named xs starts n o h l e = e ∙ ap (λ s. slot_named s n) l ∙ slot-named xs 
 inside : (c : goal.In-Some) → c.in-Some.j < length c.args.records.now
 inside c = within _ _ _ (sym (named c.args.records.now c.args.layout.now.starts c.args.r.now.seen (Some c.in-Some.j) c.requires.grouped c.requires.layout c.in-Some.ensures))
 
-pub offset-bounds-records-j : goal.offset-bounds-records-j
-offset-bounds-records-j c = omega (arith, inside c)
+pub offset_bounds-records-j : goal.offset_bounds-records-j
+offset_bounds-records-j c = omega (arith, inside c)
 
 pub bounds-records-j : goal.bounds-records-j
 bounds-records-j c = inside c
 
 pub returns-in-Some : goal.returns-in-Some
 returns-in-Some c =
-    ap not c.writes-to.ensures
-    ∙ judged c.args.records.now c.args.r.now (Some c.in-Some.j) c.if-not-is-read.ensures c.if-r.false
+    ap not c.writes_to.ensures
+    ∙ judged c.args.records.now c.args.r.now (Some c.in-Some.j) c.if-not-is_read.ensures c.if-r.false
     (named c.args.records.now c.args.layout.now.starts c.args.r.now.seen _ c.requires.grouped c.requires.layout c.in-Some.ensures)
 
 pub returns-in-None : goal.returns-in-None
 returns-in-None c =
-    judged c.args.records.now c.args.r.now None c.if-not-is-read.ensures c.if-r.false
+    judged c.args.records.now c.args.r.now None c.if-not-is_read.ensures c.if-r.false
     (named c.args.records.now c.args.layout.now.starts c.args.r.now.seen _ c.requires.grouped c.requires.layout c.in-None.ensures)

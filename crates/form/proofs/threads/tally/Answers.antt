@@ -9,8 +9,8 @@ use Rattle.form.proofs.threads.tally.Goals as goal
 pub loop-r-init : goal.loop-r-init
 loop-r-init c = fresh _ 0 0 8 (λ x. refl)
 
-pub overflow-add-counts : goal.overflow-add-counts
-overflow-add-counts c =
+pub overflow_add-counts : goal.overflow_add-counts
+overflow_add-counts c =
     let small = thread_small c.args.records.now c.requires c.loop-r.r-index c.loop-r-test.true in
     omega (arith, place-small c.args.records.now c.loop-r.r-index (c.requires c.loop-r.r-index c.loop-r-test.true), c.loop-r.invariant.1 (at c.args.records.now c.loop-r.r-index).thread small)
 

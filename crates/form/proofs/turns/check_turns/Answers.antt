@@ -3,24 +3,24 @@ use Rattle.std.proofs.Common.{arith}
 use Rattle.form.proofs.Layouts.{few-records}
 use Rattle.form.proofs.turns.check_turns.Goals as goal
 
-pub order-of-order-requires : goal.order-of-order-requires
-order-of-order-requires c = record { few = few-records c.args.records.now c.requires.grouped; formed = c.requires.formed }
+pub order_of-order-requires : goal.order_of-order-requires
+order_of-order-requires c = record { few = few-records c.args.records.now c.requires.grouped; formed = c.requires.formed }
 
-pub first-misfit-requires : goal.first-misfit-requires
-first-misfit-requires c =
+pub first_misfit-requires : goal.first_misfit-requires
+first_misfit-requires c =
     record {
       grouped = c.requires.grouped;
       formed = c.requires.formed;
-      order = c.order-of-order.ensures;
-      all = c.count-capitals-all.ensures.value;
-      few = omega (arith, c.count-capitals-all.ensures.bound, few-records c.args.records.now c.requires.grouped);
+      order = c.order_of-order.ensures;
+      all = c.count_capitals-all.ensures.value;
+      few = omega (arith, c.count_capitals-all.ensures.bound, few-records c.args.records.now c.requires.grouped);
     }
 
-pub first-mislock-requires : goal.first-mislock-requires
-first-mislock-requires c =
+pub first_mislock-requires : goal.first_mislock-requires
+first_mislock-requires c =
     record {
       formed = c.requires.formed;
-      order = c.order-of-order.ensures;
-      all = c.count-capitals-all.ensures.value;
-      few = omega (arith, c.count-capitals-all.ensures.bound, few-records c.args.records.now c.requires.grouped);
+      order = c.order_of-order.ensures;
+      all = c.count_capitals-all.ensures.value;
+      few = omega (arith, c.count_capitals-all.ensures.bound, few-records c.args.records.now c.requires.grouped);
     }

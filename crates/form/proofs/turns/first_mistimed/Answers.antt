@@ -12,12 +12,12 @@ loop-j-init c = (λ k l. absurd (omega arith), c.records.invariant.1)
 pub loop-j-preserved : goal.loop-j-preserved
 loop-j-preserved c = (clear-more _ _ c.loop-j.invariant.0 c.if-clash.ensures, c.loop-j.invariant.1)
 
-pub records-preserved-then-not-is-capital : goal.records-preserved-then-not-is-capital
-records-preserved-then-not-is-capital c = (clear-more _ _ c.records.invariant.0 (sym (and_left _ _ (sym c.if-not-is-capital.ensures))), c.records.invariant.1)
+pub records-preserved-then-not-is_capital : goal.records-preserved-then-not-is_capital
+records-preserved-then-not-is_capital c = (clear-more _ _ c.records.invariant.0 (sym (and_left _ _ (sym c.if-not-is_capital.ensures))), c.records.invariant.1)
 
 pub records-preserved : goal.records-preserved
 records-preserved c =
-    let low : (at c.args.records.now c.records.k).turn ≤ capitals c.args.records.now = omega (arith, c.if-records-k.false, c.count-capitals-all.ensures.value) in (
+    let low : (at c.args.records.now c.records.k).turn ≤ capitals c.args.records.now = omega (arith, c.if-records-k.false, c.count_capitals-all.ensures.value) in (
       clear-more _ _ c.records.invariant.0
           (sym (and_right _ _ (or_from _ _ (le-ltb _ _ low) (sym (some-none _ _ _ c.loop-j-test.false c.loop-j.invariant.0))))),
       c.loop-j.invariant.1,
@@ -28,13 +28,13 @@ returns-after-records c = c.records.invariant.1 ∙ first-none _ _ _ c.records-t
 
 pub returns-then-records-k : goal.returns-then-records-k
 returns-then-records-k c =
-    let high : capitals c.args.records.now < (at c.args.records.now c.records.k).turn = omega (arith, c.if-records-k.true, c.count-capitals-all.ensures.value) in
+    let high : capitals c.args.records.now < (at c.args.records.now c.records.k).turn = omega (arith, c.if-records-k.true, c.count_capitals-all.ensures.value) in
     first_some _ _ _ c.records-test.true
-    (sym (and_from _ _ (sym c.if-not-is-capital.ensures) (or_left _ _ (lt-ltb _ _ high))))
+    (sym (and_from _ _ (sym c.if-not-is_capital.ensures) (or_left _ _ (lt-ltb _ _ high))))
     c.records.invariant.0
 
 pub returns-then-clash : goal.returns-then-clash
 returns-then-clash c =
     first_some _ _ _ c.records-test.true
-    (sym (and_from _ _ (sym c.if-not-is-capital.ensures) (or_right _ _ (sym (some-found _ _ _ c.loop-j-test.true c.if-clash.ensures c.loop-j.invariant.0)))))
+    (sym (and_from _ _ (sym c.if-not-is_capital.ensures) (or_right _ _ (sym (some-found _ _ _ c.loop-j-test.true c.if-clash.ensures c.loop-j.invariant.0)))))
     c.records.invariant.0

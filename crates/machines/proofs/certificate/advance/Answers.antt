@@ -3,15 +3,18 @@ use borrow.Rule.Slice.PartMut.{put_mid}
 use Rattle.machines.specs.Moves.{shift}
 use Rattle.machines.proofs.Shifts.{length_shift, rotated}
 use Rattle.machines.proofs.certificate.advance.Goals as goal
-use Rattle.machines.proofs.certificate.advance.Goals.{After-rotate-right}
+use Rattle.machines.proofs.certificate.advance.Goals.{After-rotate_right}
 
-made : (c : After-rotate-right) → put_mid c.args.at (c.args.last + 1 - c.args.at) c.args.list.now.places c.rotate-right.new.self ≡ shift c.args.at (c.args.last - c.args.at - 1) c.args.list.now.places
-made c = rotated c.args.at c.args.last c.args.list.now.places c.rotate-right.new.self c.requires.ordered (omega (arith, c.args.list.now.full)) c.rotate-right.ensures.after
+made : (c : After-rotate_right) → put_mid c.args.at (c.args.last + 1 - c.args.at) c.args.list.now.places c.rotate_right.new.self ≡ shift c.args.at (c.args.last - c.args.at - 1) c.args.list.now.places
+made c = rotated c.args.at c.args.last c.args.list.now.places c.rotate_right.new.self c.requires.ordered (omega (arith, c.args.list.now.full)) c.rotate_right.ensures.after
 
-pub invariant-of-list : goal.invariant-of-list
-invariant-of-list c =
+pub invariant_of-list : goal.invariant_of-list
+invariant_of-list c =
     let list = c.args.list.now in
-    (list.within, (ap length (made c) ∙ length_shift c.args.at (c.args.last - c.args.at - 1) list.places (omega (arith, c.requires.ordered, list.full)) ∙ list.full, tt))
+    record {
+      within = list.within;
+      full = ap length (made c) ∙ length_shift c.args.at (c.args.last - c.args.at - 1) list.places (omega (arith, c.requires.ordered, list.full)) ∙ list.full;
+    }
 
 pub returns : goal.returns
-returns c = record { next = refl; places = made (goal.at.returns c).After-rotate-right }
+returns c = record { next = refl; places = made (goal.at.returns c).After-rotate_right }

@@ -10,8 +10,8 @@ use Rattle.machines.proofs.certificate.passes.Goals as goal
 abbrev at : CheckedCase → ℕ → ℕ → Action
 at c t = action_at (thread (threads c) t)
 
-pub returns-in-default : goal.returns-in-default
-returns-in-default c = asked_no_write (at c.args.case.now c.args.thread) c.args.places.now c.requires c.action-at.result c.action-at.ensures.value c.in-default.not-Write
+pub returns-in_default : goal.returns-in_default
+returns-in_default c = asked_no_write (at c.args.case.now c.args.thread) c.args.places.now c.requires c.action_at.result c.action_at.ensures.value c.in_default.not-Write
 
 pub loop-place-init : goal.loop-place-init
 loop-place-init c = asked-none (at c.args.case.now c.args.thread) c.args.places.now c.requires c.in-Write.name c.in-Write.location c.in-Write.ensures.value
@@ -19,23 +19,23 @@ loop-place-init c = asked-none (at c.args.case.now c.args.thread) c.args.places.
 pub returns-then-not-carried : goal.returns-then-not-carried
 returns-then-not-carried c =
     asked_not_carried (at c.args.case.now c.args.thread) c.args.places.now c.requires c.in-Write.name c.in-Write.location
-    c.loop-place.place-index c.action-at-in-loop-place.result c.loop-place-test.true c.action-at-in-loop-place.ensures.value c.if-not-carried.ensures
+    c.loop-place.place-index c.action_at-in-loop-place.result c.loop-place-test.true c.action_at-in-loop-place.ensures.value c.if-not-carried.ensures
     ∙ c.loop-place.invariant
 
 pub loop-place-preserved : goal.loop-place-preserved
 loop-place-preserved c =
     asked-carried (at c.args.case.now c.args.thread) c.args.places.now c.requires c.in-Write.name c.in-Write.location
-    c.loop-place.place-index c.action-at-in-loop-place.result c.loop-place-test.true c.action-at-in-loop-place.ensures.value c.if-not-carried.ensures
+    c.loop-place.place-index c.action_at-in-loop-place.result c.loop-place-test.true c.action_at-in-loop-place.ensures.value c.if-not-carried.ensures
     ∙ c.loop-place.invariant
 
-pub returns-then-not-other-read : goal.returns-then-not-other-read
-returns-then-not-other-read c =
+pub returns-then-not-other_read : goal.returns-then-not-other_read
+returns-then-not-other_read c =
     asked-all (at c.args.case.now c.args.thread) c.args.places.now c.requires c.in-Write.name c.in-Write.location
-    c.loop-place.place-index c.action-at-2.result _ (omega arith) c.loop-place-test.false c.action-at-2.ensures.value c.if-not-other-read.ensures
+    c.loop-place.place-index c.action_at-2.result _ (omega arith) c.loop-place-test.false c.action_at-2.ensures.value c.if-not-other_read.ensures
     ∙ c.loop-place.invariant
 
 pub returns : goal.returns
 returns c =
     asked-all (at c.args.case.now c.args.thread) c.args.places.now c.requires c.in-Write.name c.in-Write.location
-    c.loop-place.place-index c.action-at-2.result _ (omega arith) c.loop-place-test.false c.action-at-2.ensures.value c.if-not-other-read.ensures
+    c.loop-place.place-index c.action_at-2.result _ (omega arith) c.loop-place-test.false c.action_at-2.ensures.value c.if-not-other_read.ensures
     ∙ c.loop-place.invariant

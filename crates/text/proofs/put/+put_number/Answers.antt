@@ -13,18 +13,18 @@ returns-then-n-lt10 t c =
       bytes = one_digit c.args.out.now c.args.at c.args.n (omega arith) (omega (arith, decimal_nonempty c.args.n (omega arith)));
     }
 
-pub put-number-end-requires : goal.put-number-end-requires
-put-number-end-requires t c = (omega arith, omega (arith, length-step c.args.n (omega arith) (omega arith)))
+pub put_number-end-requires : goal.put_number-end-requires
+put_number-end-requires t c = (omega arith, omega (arith, length-step c.args.n (omega arith) (omega arith)))
 
 pub bounds-out-end : goal.bounds-out-end
 bounds-out-end t c = omega (arith, length-step c.args.n (omega arith) (omega arith))
 
-pub overflow-add-result-2 : goal.overflow-add-result-2
-overflow-add-result-2 t c = record { fits = omega (arith, length-step c.args.n (omega arith) (omega arith)) }
+pub overflow_add-result-2 : goal.overflow_add-result-2
+overflow_add-result-2 t c = record { fits = omega (arith, length-step c.args.n (omega arith) (omega arith)) }
 
 pub returns : goal.returns
 returns t c =
     record {
       end = omega (arith, length-step c.args.n (omega arith) (omega arith));
-      bytes = more-digits c.args.out.now _ c.args.at _ c.args.n (omega arith) (omega arith) (omega arith) c.put-number-end.ensures.end c.put-number-end.ensures.bytes;
+      bytes = more-digits c.args.out.now _ c.args.at _ c.args.n (omega arith) (omega arith) (omega arith) c.put_number-end.ensures.end c.put_number-end.ensures.bytes;
     }

@@ -3,8 +3,8 @@ use Rattle.std.proofs.lemmas.Fmt.{decimal_digit, length-decimal-le}
 use Rattle.text.proofs.Places.{length-step}
 use Rattle.text.proofs.put.digits.Goals as goal
 
-pub overflow-add-count : goal.overflow-add-count
-overflow-add-count c = record { fits = omega (arith, length-decimal-le 20 c.args.n (omega arith) (omega arith) (omega arith)) }
+pub overflow_add-count : goal.overflow_add-count
+overflow_add-count c = record { fits = omega (arith, length-decimal-le 20 c.args.n (omega arith) (omega arith) (omega arith)) }
 
 pub loop-rest-preserved : goal.loop-rest-preserved
 loop-rest-preserved c = (omega arith, omega (arith, length-step c.loop-rest.rest (omega arith) (omega arith)))

@@ -8,6 +8,6 @@ returns c =
     record {
       end = omega arith;
       bytes =
-          ap (λ t. set (take at s ++ (t ++ drop k (drop at s))) (at + length ds) c.args.after) c.copy-from-slice.ensures.after
+          ap (λ t. set (take at s ++ (t ++ drop k (drop at s))) (at + length ds) c.args.after) c.copy_from_slice.ensures.after
           ∙ ap (λ t. set t (at + length ds) c.args.after) (placed-part s at k ds (omega arith)) ∙ placed_push s at ds c.args.after (omega arith);
     }

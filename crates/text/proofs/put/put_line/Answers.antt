@@ -8,8 +8,8 @@ pub returns : goal.returns
 returns c =
     let s = c.args.out.now in let line = c.args.line.now in
     record {
-      end = c.put-pair.ensures.end;
+      end = c.put_pair.ensures.end;
       bytes =
-          c.put-pair.ensures.bytes ∙ ap (λ t. placed (t ++ drop (length line - 0) s) (length line) (cr ∷ lf ∷ [])) c.copy-from-slice.ensures.after
+          c.put_pair.ensures.bytes ∙ ap (λ t. placed (t ++ drop (length line - 0) s) (length line) (cr ∷ lf ∷ [])) c.copy_from_slice.ensures.after
           ∙ placed-behind s line (cr ∷ lf ∷ []) (length line - 0) (omega arith) (omega arith);
     }

@@ -4,7 +4,7 @@ use Rattle.text.proofs.put.put_number_cell.Goals as goal
 
 pub returns : goal.returns
 returns c =
-    let e = c.put-number-end.ensures in
+    let e = c.put_number-end.ensures in
     record {
       end = omega arith;
       bytes = (λ i. set (e.bytes i) (e.end i) c.args.after) ∙ placed_push c.args.out.now c.args.at (decimal c.args.n) c.args.after (omega arith);

@@ -10,10 +10,10 @@ use Rattle.text.proofs.rows.measure.Goals as goal
 pub loop-row-init : goal.loop-row-init
 loop-row-init g c = (omega (arith, ap length c.header.ensures.value, front-none g.T.Row.sheet g.T.Row.cells c.args.rows.now), tt)
 
-pub returns-in-default : goal.returns-in-default
-returns-in-default g c =
+pub returns-in_default : goal.returns-in_default
+returns-in_default g c =
     record {
-      value = unknown g.T.Row.sheet g.T.Row.cells c.args.rows.now c.loop-row.row-index c.row-item.result c.loop-row-test.true c.row-item.is (cond-none _ _ c.in-default.ensures.value);
+      value = unknown g.T.Row.sheet g.T.Row.cells c.args.rows.now c.loop-row.row-index c.row-item.result c.loop-row-test.true c.row-item.is (cond-none _ _ c.in_default.ensures.value);
       fit = tt;
     }
 
@@ -28,8 +28,8 @@ more g c =
       fits_more sh cells rows i x c.loop-row-test.true c.row-item.is c.loop-row.invariant.1 (record { knows = s.0; holds = c.in-Some.ensures.within }),
     )
 
-pub overflow-add-total-in-loop-row : goal.overflow-add-total-in-loop-row
-overflow-add-total-in-loop-row g c =
+pub overflow_add-total-in-loop-row : goal.overflow_add-total-in-loop-row
+overflow_add-total-in-loop-row g c =
     let sh = g.T.Row.sheet in let m = more g c in
     record { fits = omega (arith, m.0, front-short sh g.T.Row.cells c.args.rows.now (c.loop-row.row-index + 1) (made sh g.met.T.Row.made) c.requires (omega arith) m.1) }
 

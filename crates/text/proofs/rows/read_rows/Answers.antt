@@ -10,14 +10,14 @@ use Rattle.text.proofs.Reader.{broken, miscounted, overfull, looked, one_more, e
 use Rattle.text.proofs.RoundTrip.{made, most-rows}
 use Rattle.text.proofs.rows.read_rows.Goals as goal
 
-pub overflow-add-line : goal.overflow-add-line
-overflow-add-line g c = record { fits = omega (arith, most-rows g.T.Row.sheet (made g.T.Row.sheet g.met.T.Row.made), c.loop-rest.invariant.few) }
+pub overflow_add-line : goal.overflow_add-line
+overflow_add-line g c = record { fits = omega (arith, most-rows g.T.Row.sheet (made g.T.Row.sheet g.met.T.Row.made), c.loop-rest.invariant.few) }
 
-pub returns-in-default-first : goal.returns-in-default-first
-returns-in-default-first g c =
+pub returns-in_default-first : goal.returns-in_default-first
+returns-in_default-first g c =
     let sh = g.T.Row.sheet in let out = c.args.rows.now in let n = c.loop-rest.count in let rest = c.loop-rest.rest.now in
     let some : 0 < length rest = omega (arith, eqb-false (length rest) 0 (sym c.loop-rest-test.ensures)) in
-    let stop = broken sh.columns (min (length out) sh.most - n) (n + 2) rest some (sym c.in-default-first.ensures.value) in
+    let stop = broken sh.columns (min (length out) sh.most - n) (n + 2) rest some (sym c.in_default-first.ensures.value) in
     let p = ends sh g.T.Row.cells g.T.Row.row g.met.T.Row.back c.args.text.now out c.loop-rest.rows n rest c.loop-rest.auto.rows c.loop-rest.invariant (Some (refusal 1 (n + 2))) stop in
     record { answer = p.0; after = p.1; whole = tt }
 
@@ -44,21 +44,21 @@ returns-then-count-room g c =
     let p = ends sh g.T.Row.cells g.T.Row.row g.met.T.Row.back c.args.text.now out c.loop-rest.rows n rest c.loop-rest.auto.rows c.loop-rest.invariant (Some (refusal 4 (n + 2))) stop in
     record { answer = p.0; after = p.1; whole = tt }
 
-pub returns-in-err-rows : goal.returns-in-err-rows
-returns-in-err-rows g c =
+pub returns-in_err-rows : goal.returns-in_err-rows
+returns-in_err-rows g c =
     let sh = g.T.Row.sheet in let out = c.args.rows.now in let n = c.loop-rest.count in let rest = c.loop-rest.rest.now in
     let line = c.in-Some-first.next.body.now in
     let found : first_line (lines rest) ≡ Some line = sym c.in-Some-first.ensures.value in
     let counts = c.in-Some-first.ensures.off.count in
     let right : length (fields line) ≡ length sh.columns = sym counts ∙ c.if-next-columns.false ∙ c.columns.ensures.value in
-    let q = err_from_is_err_and c.from-residual.result c.from-residual.ensures.1 in
+    let q = err_from_is_err_and c.from_residual.result c.from_residual.ensures.1 in
     let some : 0 < min (length out) sh.most - n = omega (arith, c.loop-rest.invariant.few) in
-    let stop = looked sh.columns (min (length out) sh.most - n) (n + 2) rest line found right some (Err (told c.in-err-rows.field-0.0)) c.in-err-rows.ensures.value in
-    let p = ends sh g.T.Row.cells g.T.Row.row g.met.T.Row.back c.args.text.now out c.loop-rest.rows n rest c.loop-rest.auto.rows c.loop-rest.invariant (Some (told c.in-err-rows.field-0.0)) stop in
+    let stop = looked sh.columns (min (length out) sh.most - n) (n + 2) rest line found right some (Err (told c.in_err-rows.field-0.0)) c.in_err-rows.ensures.value in
+    let p = ends sh g.T.Row.cells g.T.Row.row g.met.T.Row.back c.args.text.now out c.loop-rest.rows n rest c.loop-rest.auto.rows c.loop-rest.invariant (Some (told c.in_err-rows.field-0.0)) stop in
     rw (q.1, q.2) (record { answer = p.0; after = p.1; whole = tt })
 
-pub offset-bounds-rows-count : goal.offset-bounds-rows-count
-offset-bounds-rows-count g c = let h : c.loop-rest.count < length c.args.rows.now = omega (arith, c.loop-rest.invariant.few) in search rules
+pub offset_bounds-rows-count : goal.offset_bounds-rows-count
+offset_bounds-rows-count g c = let h : c.loop-rest.count < length c.args.rows.now = omega (arith, c.loop-rest.invariant.few) in search rules
 
 pub loop-rest-preserved : goal.loop-rest-preserved
 loop-rest-preserved g c =
@@ -68,7 +68,7 @@ loop-rest-preserved g c =
     let counts = c.in-Some-first.ensures.off.count in
     let right : length (fields line) ≡ length sh.columns = sym counts ∙ c.if-next-columns.false ∙ c.columns.ensures.value in
     let some : n < min (length out) sh.most = omega (arith, c.loop-rest.invariant.few) in
-    one_more sh g.T.Row.cells g.T.Row.row c.args.text.now out c.loop-rest.rows n rest line c.in-Some-first.next.rest.now c.in-ok-rows.field-0 c.loop-rest.auto.rows some c.loop-rest.invariant found right c.in-ok-rows.ensures.value c.in-Some-first.ensures.off.after
+    one_more sh g.T.Row.cells g.T.Row.row c.args.text.now out c.loop-rest.rows n rest line c.in-Some-first.next.rest.now c.in_ok-rows.field-0 c.loop-rest.auto.rows some c.loop-rest.invariant found right c.in_ok-rows.ensures.value c.in-Some-first.ensures.off.after
 
 pub returns : goal.returns
 returns g c =

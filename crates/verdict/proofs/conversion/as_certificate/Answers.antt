@@ -11,6 +11,6 @@ pub returns : goal.returns
 returns c =
     let done = c.in-Ok.ensures in
     record {
-      list = ap (λ k. take k c.to_certificate_lem.new.out) done.counts.length_is ∙ ap (take _) done.list ∙ in_front-put _ _;
+      list = ap (λ k. take k c.to_certificate.new.out) done.counts.length_is ∙ ap (take _) done.list ∙ in_front-put _ _;
       few = omega (arith, done.counts.items_few);
     }

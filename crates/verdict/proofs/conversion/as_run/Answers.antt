@@ -11,6 +11,6 @@ pub returns : goal.returns
 returns c =
     let done = c.in-Ok.ensures in
     record {
-      list = ap (λ k. take k c.to-run.new.out) done.list.1 ∙ ap (take _) done.list.0 ∙ in_front-put _ _;
+      list = ap (λ k. take k c.to_run.new.out) done.list.1 ∙ ap (take _) done.list.0 ∙ in_front-put _ _;
       few = omega (arith, done.complete.1);
     }

@@ -18,6 +18,6 @@ returns c =
     let few : length xs ≤ 4352 = omega (arith, length-take (c.convert-count.result - 0) all, c.convert-count.ensures.few) in
     let out = c.args.out.now in
     record {
-      answer = c.write-evidence.ensures.answer ∙ writes-other rs is xs (length out) list few;
-      after = c.write-evidence.ensures.after ∙ ap (λ ys. written (answered c.write-evidence.result) (evidence_text ys) out) list;
+      answer = c.write_evidence.ensures.answer ∙ writes-other rs is xs (length out) list few;
+      after = c.write_evidence.ensures.after ∙ ap (λ ys. written (answered c.write_evidence.result) (evidence_text ys) out) list;
     }

@@ -2,7 +2,7 @@ use Rattle.std.proofs.Common.{◌≡◌, ℕ, ◌+◌, ◌*◌, ◌<◌, ◌≤�
 use Rattle.std.specs.List.{slice_get}
 use Rattle.records.specs.Actions.{action_of, Located}
 use Rattle.records.specs.Names.{at, thread, threads_of}
-use Rattle.form.specs.Layouts.{starts_of, slot}
+use Rattle.form.specs.Layouts.{slot}
 use Rattle.form.proofs.Laws.{lawful}
 use Rattle.case.specs.Cases.{records_of}
 use Rattle.case.specs.declared.checked.CheckedCase.{CheckedCase}
@@ -20,29 +20,29 @@ module _ (self : CheckedCase) (t p : ℕ) where
 few : (self : CheckedCase) → length (records_of self) ≤ 256
 few self = (lawful (records_of self) self.formed).few
 
-pub returns-in-err-k : goal.returns-in-err-k
-returns-in-err-k c =
-    let e = c.from-residual.ensures in
+pub returns-in_err-k : goal.returns-in_err-k
+returns-in_err-k c =
+    let e = c.from_residual.ensures in
     record {
-      value = e ∙ sym (none c.args.self.now c.args.thread c.args.place (sym c.slot.ensures ∙ c.in-err-k.was));
+      value = e ∙ sym (none c.args.self.now c.args.thread c.args.place (sym c.slot.ensures ∙ c.in_err-k.was));
       located = subst (λ a. IfSome a Located) (sym e) tt;
     }
 
-pub offset-bounds-records-k : goal.offset-bounds-records-k
-offset-bounds-records-k c =
-    let s = some c.args.self.now c.args.thread c.args.place c.in-ok-k.k (sym c.slot.ensures ∙ c.in-ok-k.was) in
+pub offset_bounds-records-k : goal.offset_bounds-records-k
+offset_bounds-records-k c =
+    let s = some c.args.self.now c.args.thread c.args.place c.in_ok-k.k (sym c.slot.ensures ∙ c.in_ok-k.was) in
     record { fits = omega (arith, s.0, few c.args.self.now) }
 
 pub bounds-records-k : goal.bounds-records-k
 bounds-records-k c =
-    let s = some c.args.self.now c.args.thread c.args.place c.in-ok-k.k (sym c.slot.ensures ∙ c.in-ok-k.was) in
+    let s = some c.args.self.now c.args.thread c.args.place c.in_ok-k.k (sym c.slot.ensures ∙ c.in_ok-k.was) in
     omega (arith, s.0, ap length c.records.ensures.value)
 
 pub returns : goal.returns
 returns c =
     let self = c.args.self.now in
-    let k = c.in-ok-k.k in
-    let s = some self c.args.thread c.args.place k (sym c.slot.ensures ∙ c.in-ok-k.was) in
+    let k = c.in_ok-k.k in
+    let s = some self c.args.thread c.args.place k (sym c.slot.ensures ∙ c.in_ok-k.was) in
     let n : c.from.result * 64 + c.from-2.result ≡ 64 * c.args.thread + c.args.place = omega arith in
     let e : c.action.result ≡ action_of (64 * c.args.thread + c.args.place) (at (records_of self) k) =
     c.action.ensures ∙ (λ i. action_of (n i) (at (c.records.ensures.value i) k)) in

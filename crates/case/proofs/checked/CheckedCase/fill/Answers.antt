@@ -1,8 +1,7 @@
-use Rattle.std.proofs.Common.{◌≡◌, ◌≤◌, true, not, List, length, is_some, None, Option, sym, ap, ◌∙◌, subst, arith}
+use Rattle.std.proofs.Common.{◌≡◌, ◌≤◌, true, not, List, length, is_some, None, sym, ap, ◌∙◌, subst, arith}
 use Rattle.records.specs.declared.Record.{Record}
 use Rattle.form.specs.Form.{form_refusal, in_form}
 use Rattle.form.specs.Layouts.{starts_of}
-use Rattle.records.specs.Refusals.{Refusal}
 use Rattle.form.proofs.Laws.{lawful}
 use Rattle.case.proofs.checked.CheckedCase.fill.Goals as goal
 
@@ -14,14 +13,18 @@ few : (xs : List Record) → None ≡ form_refusal xs → length xs ≤ 256
 few xs e = (lawful xs (formed xs e)).few
 
 pub padded-all-requires : goal.padded-all-requires
-padded-all-requires c = few c.args.records.now c.in-ok-layout.ensures.verdict
+padded-all-requires c = few c.args.records.now c.in_ok-layout.ensures.verdict
 
-pub overflow-cast-self : goal.overflow-cast-self
-overflow-cast-self c = record { fits = omega (arith, few c.args.records.now c.in-ok-layout.ensures.verdict) }
+pub overflow_cast-self : goal.overflow_cast-self
+overflow_cast-self c = record { fits = omega (arith, few c.args.records.now c.in_ok-layout.ensures.verdict) }
 
-pub invariant-of-self : goal.invariant-of-self
-invariant-of-self c =
+pub invariant_of-self : goal.invariant_of-self
+invariant_of-self c =
     let xs = c.args.records.now in
-    let e = c.in-ok-layout.ensures.verdict in
+    let e = c.in_ok-layout.ensures.verdict in
     let p = c.padded-all.ensures in
-    (few xs e, (subst (λ l. in_form l ≡ true) (sym p) (formed xs e), ((c.in-ok-layout.ensures.layout ∙ ap starts_of (sym p)), tt)))
+    record {
+      within = few xs e;
+      formed = subst (λ l. in_form l ≡ true) (sym p) (formed xs e);
+      laid = c.in_ok-layout.ensures.layout ∙ ap starts_of (sym p);
+    }

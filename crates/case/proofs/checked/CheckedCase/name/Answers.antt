@@ -5,8 +5,8 @@ use Rattle.case.specs.Cases.{records_of}
 use Rattle.case.proofs.Slots.{starts-before, name_by_start, name_of}
 use Rattle.case.proofs.checked.CheckedCase.name.Goals as goal
 
-pub overflow-sub-place : goal.overflow-sub-place
-overflow-sub-place c =
+pub overflow_sub-place : goal.overflow_sub-place
+overflow_sub-place c =
     let self = c.args.self.now in
     let e = c.records-records.ensures.value in
     let l : c.args.index < length (records_of self) = subst (λ xs. c.args.index < length xs) e (omega arith) in

@@ -18,14 +18,14 @@ returns-then-thread-gt7 c =
     let e = thread-over (records_of self) self.formed c.args.thread (omega arith) in
     record { value = e; len = (tells self c.args.thread _ e).0; few = (tells self c.args.thread _ e).1 }
 
-pub slice-bounds-result-count-2 : goal.slice-bounds-result-count-2
-slice-bounds-result-count-2 c = let self = c.args.self.now in part_up (records_of self) self.formed self.layout.starts self.laid c.args.thread (omega arith)
+pub slice_bounds-result-count-2 : goal.slice_bounds-result-count-2
+slice_bounds-result-count-2 c = let self = c.args.self.now in part_up (records_of self) self.formed self.layout.starts self.laid c.args.thread (omega arith)
 
-pub slice-bounds-result-start-2 : goal.slice-bounds-result-start-2
-slice-bounds-result-start-2 c = let self = c.args.self.now in part_up (records_of self) self.formed self.layout.starts self.laid c.args.thread (omega arith)
+pub slice_bounds-result-start-2 : goal.slice_bounds-result-start-2
+slice_bounds-result-start-2 c = let self = c.args.self.now in part_up (records_of self) self.formed self.layout.starts self.laid c.args.thread (omega arith)
 
-pub slice-bounds-result-end-2 : goal.slice-bounds-result-end-2
-slice-bounds-result-end-2 c =
+pub slice_bounds-result-end-2 : goal.slice_bounds-result-end-2
+slice_bounds-result-end-2 c =
     let self = c.args.self.now in
     omega (arith, part-within (records_of self) self.formed self.layout.starts self.laid c.args.thread (omega arith), ap length c.records-records.ensures.value)
 

@@ -44,48 +44,48 @@ module _ (row : Row) (x n : ℕ) (ws : List Host) (are : ws ≡ window row) (is 
       let k = row.counted in
       omega arith
 
-pub overflow-add-self-2 : goal.overflow-add-self-2
-overflow-add-self-2 c =
-    let i = inside c.args.self.now c.args.location c.stay-at-stay.result _ c.waiting.ensures c.stay-at-stay.ensures c.if-stay-eq0.false (omega arith) in
+pub overflow_add-self-2 : goal.overflow_add-self-2
+overflow_add-self-2 c =
+    let i = inside c.args.self.now c.args.location c.stay_at-stay.result _ c.waiting.ensures c.stay_at-stay.ensures c.if-stay-eq0.false (omega arith) in
     search rules
 
-pub offset-bounds-self-self : goal.offset-bounds-self-self
-offset-bounds-self-self c =
-    let i = inside c.args.self.now c.args.location c.stay-at-stay.result _ c.waiting.ensures c.stay-at-stay.ensures c.if-stay-eq0.false (omega arith) in
+pub offset_bounds-self-self : goal.offset_bounds-self-self
+offset_bounds-self-self c =
+    let i = inside c.args.self.now c.args.location c.stay_at-stay.result _ c.waiting.ensures c.stay_at-stay.ensures c.if-stay-eq0.false (omega arith) in
     search rules
 
 pub bounds-self-self : goal.bounds-self-self
 bounds-self-self c =
-    let i = inside c.args.self.now c.args.location c.stay-at-stay.result _ c.waiting.ensures c.stay-at-stay.ensures c.if-stay-eq0.false (omega arith) in
+    let i = inside c.args.self.now c.args.location c.stay_at-stay.result _ c.waiting.ensures c.stay_at-stay.ensures c.if-stay-eq0.false (omega arith) in
     omega arith
 
 pub bounds-self-self-2 : goal.bounds-self-self-2
 bounds-self-self-2 c =
-    let i = inside c.args.self.now c.args.location c.stay-at-stay.result _ c.waiting.ensures c.stay-at-stay.ensures c.if-stay-eq0.false (omega arith) in
+    let i = inside c.args.self.now c.args.location c.stay_at-stay.result _ c.waiting.ensures c.stay_at-stay.ensures c.if-stay-eq0.false (omega arith) in
     omega arith
 
-pub overflow-add-self-3 : goal.overflow-add-self-3
-overflow-add-self-3 c =
-    let s = small c.args.self.now c.args.location c.stay-at-stay.result _ c.waiting.ensures c.stay-at-stay.ensures c.if-stay-eq0.false (omega arith) in
+pub overflow_add-self-3 : goal.overflow_add-self-3
+overflow_add-self-3 c =
+    let s = small c.args.self.now c.args.location c.stay_at-stay.result _ c.waiting.ensures c.stay_at-stay.ensures c.if-stay-eq0.false (omega arith) in
     search rules
 
-pub invariant-of-self-2 : goal.invariant-of-self-2
-invariant-of-self-2 c =
+pub invariant_of-self-2 : goal.invariant_of-self-2
+invariant_of-self-2 c =
     let row = c.args.self.now in
     let x = c.args.location in
-    let n = c.stay-at-stay.result in
-    let e = ap width (joins row x n _ c.waiting.ensures c.stay-at-stay.ensures c.if-stay-eq0.false (omega arith)) in
-    let w = wider row x n _ c.waiting.ensures c.stay-at-stay.ensures c.if-stay-eq0.false (omega arith) in
-    (omega arith, (omega arith, (omega arith, (omega arith, tt))))
+    let n = c.stay_at-stay.result in
+    let e = ap width (joins row x n _ c.waiting.ensures c.stay_at-stay.ensures c.if-stay-eq0.false (omega arith)) in
+    let w = wider row x n _ c.waiting.ensures c.stay_at-stay.ensures c.if-stay-eq0.false (omega arith) in
+    record { ordered = omega arith; behind = omega arith; within = omega arith; counted = omega arith }
 
 pub returns : goal.returns
 returns c =
     let row = c.args.self.now in
     let x = c.args.location in
-    let n = c.stay-at-stay.result in
-    let s = stays row x n _ c.waiting.ensures c.stay-at-stay.ensures c.if-stay-eq0.false (omega arith) in
+    let n = c.stay_at-stay.result in
+    let s = stays row x n _ c.waiting.ensures c.stay_at-stay.ensures c.if-stay-eq0.false (omega arith) in
     record {
       value = sym (ap unhosted (sym s) ∙ unhosted-some n (let z = c.if-stay-eq0.false in omega arith));
       next = add-one row.next;
-      hosts = joins row x n _ c.waiting.ensures c.stay-at-stay.ensures c.if-stay-eq0.false (omega arith) ∙ ap (λ k. joins_at k (window row)) s;
+      hosts = joins row x n _ c.waiting.ensures c.stay_at-stay.ensures c.if-stay-eq0.false (omega arith) ∙ ap (λ k. joins_at k (window row)) s;
     }

@@ -3,15 +3,15 @@ use Rattle.machines.proofs.Windows.{window-less}
 use Rattle.conversions.specs.Hosts.{new_host, width, leaving, younger}
 use Rattle.conversions.proofs.rows.Row.leave.Goals as goal
 
-pub invariant-of-self : goal.invariant-of-self
-invariant-of-self c =
+pub invariant_of-self : goal.invariant_of-self
+invariant_of-self c =
     let row = c.args.self.now in
     let w = ap width (window-less row.hosts row.from row.upto (new_host 0) (omega arith) (omega arith)) in
     let k = row.counted in
-    (omega arith, (omega arith, (omega arith, (omega arith, tt))))
+    record { ordered = omega arith; behind = omega arith; within = omega arith; counted = omega arith }
 
-pub overflow-add-result : goal.overflow-add-result
-overflow-add-result c =
+pub overflow_add-result : goal.overflow_add-result
+overflow_add-result c =
     let row = c.args.self.now in
     let w = ap width (window-less row.hosts row.from row.upto (new_host 0) (omega arith) (omega arith)) in
     let k = row.counted in

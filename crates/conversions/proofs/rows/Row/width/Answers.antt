@@ -18,14 +18,14 @@ fits row hs i n e is l =
     let s = row.within in
     omega arith
 
-pub overflow-add-n : goal.overflow-add-n
-overflow-add-n c =
+pub overflow_add-n : goal.overflow_add-n
+overflow_add-n c =
     let f = fits c.args.self.now c.waiting-waiting.result.now c.loop-host.host-index c.loop-host.n
     c.waiting-waiting.ensures c.loop-host.invariant c.loop-host-test.true in
     search rules
 
-pub overflow-add-n-in-loop-host : goal.overflow-add-n-in-loop-host
-overflow-add-n-in-loop-host c =
+pub overflow_add-n-in-loop-host : goal.overflow_add-n-in-loop-host
+overflow_add-n-in-loop-host c =
     let f = fits c.args.self.now c.waiting-waiting.result.now c.loop-host.host-index c.loop-host.n
     c.waiting-waiting.ensures c.loop-host.invariant c.loop-host-test.true in
     search rules

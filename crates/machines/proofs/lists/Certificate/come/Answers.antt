@@ -17,7 +17,7 @@ use Rattle.machines.proofs.Lefts.{lefts, lefts-over, lefts-none, lefts-more, lef
 use Rattle.machines.proofs.Steps.{need_fails, need-holds}
 use Rattle.machines.proofs.Tables.{table-set}
 use Rattle.machines.proofs.lists.Certificate.come.Goals as goal
-use Rattle.machines.proofs.lists.Certificate.come.Goals.{After-action-at, in-Read+else-self-location, in-Write, in-Sync+else-from+else-not-agreed}
+use Rattle.machines.proofs.lists.Certificate.come.Goals.{After-action_at, in-Read+else-self-location, in-Write, in-Sync+else-from+else-not-agreed}
 
 -- the state after the next action of thread t has come, where `by` has its memory and its turns
 module _ (c : Case) (m by : Certificate) (t : ℕ) (list d e f : MovedList) where
@@ -58,26 +58,26 @@ returns-then-list-thread c =
     record { answer = sym (ap answer e); after = sym (ap (moved s) e); kept = refl }
 
 -- ── Once the next action is known ──
-abbrev state : After-action-at → OrderState
+abbrev state : After-action_at → OrderState
 state c = order_state (threads c.args.case.now) c.args.self.now
 
-abbrev rest : After-action-at → List Action
+abbrev rest : After-action_at → List Action
 rest c =
     let x = get_or c.args.self.now.lists c.args.thread c.index-self-thread.result in
     left_of (thread (threads c.args.case.now) c.args.thread) (x.next + 1) x.places
 
-next : (c : After-action-at) (a : Action) → c.action-at.result ≡ a → certifies (state c) (Come c.args.thread) ≡ comes c.args.thread (state c) (a ∷ rest c)
+next : (c : After-action_at) (a : Action) → c.action_at.result ≡ a → certifies (state c) (Come c.args.thread) ≡ comes c.args.thread (state c) (a ∷ rest c)
 next c a e =
     let long : length c.args.self.now.lists ≡ 8 = search rules in
     let l = c.thread.ensures.len in
     ap (comes c.args.thread (state c))
     (lefts-more (threads c.args.case.now) c.args.self.now.lists c.args.thread c.index-self-thread.result (omega arith) (omega (arith, c.thread.ensures.few)) (omega arith)
-    ∙ ap (λ b. b ∷ rest c) (sym c.action-at.ensures.value ∙ e))
+    ∙ ap (λ b. b ∷ rest c) (sym c.action_at.ensures.value ∙ e))
 
 pub returns-then-self-location : goal.returns-then-self-location
 returns-then-self-location c =
     let a = c.in-Read in
-    let v = (goal.at.returns-then-self-location c).After-action-at in
+    let v = (goal.at.returns-then-self-location c).After-action_at in
     let wide : length c.args.self.now.memory ≡ 64 = search rules in
     let e = next v (Read a.name a.location a.seen) a.is
     ∙ need_fails _ 38 _ (ne_eqb _ a.seen (λ e. c.if-self-location.true (get_or_default c.args.self.now.memory a.location 0 (default a.location) (omega (arith, a.ensures.located)) ∙ e))) in
@@ -86,26 +86,26 @@ returns-then-self-location c =
 pub returns-then-from : goal.returns-then-from
 returns-then-from c =
     let a = c.in-Sync in
-    let v = (goal.at.returns-then-from c).After-action-at in
+    let v = (goal.at.returns-then-from c).After-action_at in
     let e = next v (Sync a.name a.turn a.op) a.is ∙ need_fails _ 37 _ (ne_eqb a.turn (suc c.args.self.now.turns) (λ q. c.if-from.true (omega arith))) in
     record { answer = sym (ap answer e); after = sym (ap (moved (state v)) e); kept = refl }
 
 pub returns-then-not-agreed : goal.returns-then-not-agreed
 returns-then-not-agreed c =
     let a = c.in-Sync in
-    let v = (goal.at.returns-then-not-agreed c).After-action-at in
+    let v = (goal.at.returns-then-not-agreed c).After-action_at in
     let e = next v (Sync a.name a.turn a.op) a.is ∙ need-holds _ 37 _ (eq-eqb a.turn (suc c.args.self.now.turns) (omega arith)) ∙ need_fails _ 38 _ (sym c.if-not-agreed.ensures) in
     record { answer = sym (ap answer e); after = sym (ap (moved (state v)) e); kept = refl }
 
 pub returns : goal.returns
 returns c =
-    let v = (goal.at.returns c).After-action-at in
+    let v = (goal.at.returns c).After-action_at in
     let m = c.args.self.now in
-    let by = c.match-action-at.self in
+    let by = c.match-action_at.self in
     let long : length m.lists ≡ 8 = search rules in
     let wide : length m.memory ≡ 64 = search rules in
     let done = λ (list : MovedList). come-done (threads c.args.case.now) m by c.args.thread list c.index-self-thread.result c.index-self-thread-2.result c.index-self-thread-3.result in
-    elim c.match-action-at.branch [
+    elim c.match-action_at.branch [
       | in-Read+else-self-location w ↦
           let a = w.in-Read in
           let e = next v (Read a.name a.location a.seen) a.is

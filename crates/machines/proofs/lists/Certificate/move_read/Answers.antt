@@ -11,7 +11,7 @@ use Rattle.machines.specs.declared.lists.MovedList.{MovedList}
 use Rattle.machines.specs.Certificate.{move_in, relist, certifies}
 use Rattle.machines.specs.Faults.{told, certificate_number}
 use Rattle.machines.specs.Lists.{left_of, order_state}
-use Rattle.machines.specs.Machine.{goal as needs_that, answer, moved}
+use Rattle.machines.specs.Machine.{need as needs_that, answer, moved}
 use Rattle.machines.specs.Memory.{upd, held}
 use Rattle.machines.specs.Moves.{shift}
 use Rattle.machines.proofs.Lefts.{lefts, lefts-set, move-over, move-past, move_asks, move_taken}
@@ -70,17 +70,17 @@ asks c =
     move_asks (threads c.args.case.now) c.args.self.now.lists c.args.thread c.index-self-thread.result (omega arith) (omega (arith, c.thread.ensures.few)) c.args.place c.args.count (omega arith)
     (told certificate_number c.passes.result) c.passes.ensures
 
-pub returns-in-err-passes : goal.returns-in-err-passes
-returns-in-err-passes c =
+pub returns-in_err-passes : goal.returns-in_err-passes
+returns-in_err-passes c =
     let m = c.args.self.now in
     let k = threads c.args.case.now in
-    let n = certificate_number c.in-err-passes.field-0.0 in
-    let p = err_from_is_err_and c.from-residual.result c.from-residual.ensures.1 in
-    let e = move_is k m c.args.thread c.args.place c.args.count c.if-self.false (Err n) (refused_by_lem _ n (sym (asks (goal.at.returns-in-err-passes c).After-passes) ∙ ap (told certificate_number) c.in-err-passes.was)) in
+    let n = certificate_number c.in_err-passes.field-0.0 in
+    let p = err_from_is_err_and c.from_residual.result c.from_residual.ensures.1 in
+    let e = move_is k m c.args.thread c.args.place c.args.count c.if-self.false (Err n) (refused_by_lem _ n (sym (asks (goal.at.returns-in_err-passes c).After-passes) ∙ ap (told certificate_number) c.in_err-passes.was)) in
     record {
       answer = ap (told certificate_number) (p.1 ∙ ap (λ f. Err f) p.2) ∙ sym (ap answer e);
       after = sym (ap (moved (order_state k m)) e);
-      kept = MatchResult-from_err c.from-residual.result _ _ c.from-residual.ensures.0 (λ _. refl);
+      kept = MatchResult-from_err c.from_residual.result _ _ c.from_residual.ensures.0 (λ _. refl);
     }
 
 pub returns : goal.returns
@@ -93,7 +93,7 @@ returns c =
     let l = c.thread.ensures.len in
     let e = move_is k m t c.args.place c.args.count c.if-self.false _
     (move_taken k m.lists t d (omega arith) (omega (arith, c.thread.ensures.few)) c.args.place c.args.count (omega arith)
-    (sym (ap (told certificate_number) c.in-ok-passes.was) ∙ asks (goal.at.returns c).After-passes)) in
+    (sym (ap (told certificate_number) c.in_ok-passes.was) ∙ asks (goal.at.returns c).After-passes)) in
     record {
       answer = sym (ap answer e);
       after =

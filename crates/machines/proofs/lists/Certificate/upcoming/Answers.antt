@@ -25,6 +25,6 @@ returns c =
     let l = c.thread.ensures.len in
     record {
       next =
-          ap (λ a. Some a) c.action-at.ensures.value
+          ap (λ a. Some a) c.action_at.ensures.value
           ∙ sym (ap head_of (lefts-more (threads c.args.case.now) c.args.self.now.lists c.args.thread c.index-self-thread.result (omega arith) (omega (arith, c.thread.ensures.few)) (omega arith)));
     }

@@ -18,11 +18,11 @@ returns-then-thread-rows c =
     let e = rest_over (threads c.args.case.now) c.args.self.now t (thread-none (records_of c.args.case.now) t (omega arith)) in
     record { answer = sym (ap (λ l. answer (perform t s l)) e); after = sym (ap (λ l. moved s (perform t s l)) e); kept = refl }
 
-pub returns-in-default : goal.returns-in-default
-returns-in-default c =
+pub returns-in_default : goal.returns-in_default
+returns-in_default c =
     let t = c.args.thread in
     let s = run_state (threads c.args.case.now) c.args.self.now in
-    let e = rest-none (threads c.args.case.now) c.args.self.now t (omega arith) c.index-rows-thread.result c.in-default.ensures.value in
+    let e = rest-none (threads c.args.case.now) c.args.self.now t (omega arith) c.index-rows-thread.result c.in_default.ensures.value in
     record { answer = sym (ap (λ l. answer (perform t s l)) e); after = sym (ap (λ l. moved s (perform t s l)) e); kept = refl }
 
 -- ── A plain read ──

@@ -5,10 +5,10 @@ use Rattle.text.specs.Csv.{comma, cr, lf, lines}
 use Rattle.text.proofs.Scans.{free_more, count_yes, count_no, rest_of_lem, lines_at, line-found, line_lf, line_cr, line-last, line_open}
 use Rattle.text.proofs.Splits.{length-split}
 use Rattle.text.proofs.line.Line.first.Goals as goal
-use Rattle.text.proofs.line.Line.first.Goals.{in-44, in-default, else-i-text-via-then-i-text+else-text-i-eq10, else-i-text-via-else-i-text}
+use Rattle.text.proofs.line.Line.first.Goals.{in-44, in_default, else-i-text-via-then-i-text+else-text-i-eq10, else-i-text-via-else-i-text}
 
-pub overflow-add-fields : goal.overflow-add-fields
-overflow-add-fields c =
+pub overflow_add-fields : goal.overflow_add-fields
+overflow_add-fields c =
     record { fits = omega (arith, count_by-le-length (λ x. eqb x comma) (take c.loop-i.i c.args.text.now), length-take-le c.loop-i.i c.args.text.now (omega arith)) }
 
 pub returns-in-10 : goal.returns-in-10
@@ -46,7 +46,7 @@ loop-i-preserved c =
     let s = c.args.text.now in let i = c.loop-i.i in let l = c.loop-i-test.true in
     elim c.match-b.branch [
       | in-44 w ↦ (free_more s i l cr c.loop-i.invariant.0 (λ e. omega (arith, w.in-44.is)), free_more s i l lf c.loop-i.invariant.1 (λ e. omega (arith, w.in-44.is)), w.fields-is ∙ count_yes s i l comma c.loop-i.fields c.loop-i.invariant.2 w.in-44.is)
-      | in-default w ↦ (free_more s i l cr c.loop-i.invariant.0 (λ e. omega arith), free_more s i l lf c.loop-i.invariant.1 (λ e. omega arith), w.fields-is ∙ count_no s i l comma c.loop-i.fields c.loop-i.invariant.2 (λ e. omega arith))
+      | in_default w ↦ (free_more s i l cr c.loop-i.invariant.0 (λ e. omega arith), free_more s i l lf c.loop-i.invariant.1 (λ e. omega arith), w.fields-is ∙ count_no s i l comma c.loop-i.fields c.loop-i.invariant.2 (λ e. omega arith))
     ]
 
 pub returns : goal.returns

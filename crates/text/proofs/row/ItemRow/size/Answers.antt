@@ -9,7 +9,7 @@ use Rattle.text.proofs.row.ItemRow.size.Goals as goal
 pub returns : goal.returns
 returns c =
     let r = c.args.self.now in
-    let known : among r.letter item_letters ≡ true = sym c.is-among.ensures.value ∙ c.if-not-is-among.false in
+    let known : among r.letter item_letters ≡ true = sym c.is_among.ensures.value ∙ c.if-not-is_among.false in
     record {
       value = size-known evidence_sheet.columns (item_cells r) _ (and_from _ true known refl) (omega (arith, item-length r));
       within = search rules;

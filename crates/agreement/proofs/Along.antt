@@ -1,7 +1,7 @@
--- All threads along a complete run: the plan follows the moments, and the indices are what the machine does.
+-- AllByRecursion threads along a complete run: the plan follows the moments, and the indices are what the machine does.
 use Rattle.std.proofs.Common.{◌≡◌, ℕ, suc, ◌+◌, ◌-◌, ◌<◌, ◌≤◌, Bool, true, false, eqb, ◌≢◌, List, [], ◌∷◌, ◌++◌, length, get_or, Ok, sym, refl, ap, ◌∙◌, subst, ap₂, inl, inr, ⊎_elim, arith, length-append}
 use mathlib.Core.Path.{fun_ext}
-use Rattle.std.specs.List.{AllByRecursion as All}
+use Rattle.std.specs.List.{AllByRecursion}
 use Rattle.std.proofs.lemmas.Bool.{false≢true, ne_eqb, cases_eq}
 use Rattle.records.specs.declared.action.Action.{Action}
 use Rattle.records.specs.declared.action.Action.TheVariants.{Read, Write, Sync}
@@ -328,7 +328,7 @@ module _ (c : Case) (js : List RunItem) where
           let z : r ≡ (st u).next + (r - (st u).next) = omega arith in
           ap (action_at c u) z ∙ (inv u).actions-ahead (r - (st u).next) ∙ ap (λ a. get_or a (r - (st u).next) no_action) (e u)
 
-      at_end : (u : ℕ) → All (λ x. when c js u x ≡ i) (places (st u).held)
+      at_end : (u : ℕ) → AllByRecursion (λ x. when c js u x ≡ i) (places (st u).held)
       at_end u =
           dues c js u (λ z. z ≡ i) (length (st u).old) (st u).held (inv u).grouped
           (dues-writes c js u (λ z. z ≡ i) (length (st u).old) (st u).held (inv u).grouped

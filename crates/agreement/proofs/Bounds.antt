@@ -1,7 +1,7 @@
 -- How many items are taken and how large their numbers are, whether or not they lead to the end.
 use Rattle.std.proofs.Common.{◌≡◌, ℕ, suc, ◌+◌, ◌*◌, ◌<◌, ◌≤◌, true, false, ◌≢◌, List, [], ◌∷◌, ◌++◌, length, Ok, sym, refl, ap, ◌∙◌, subst, ap₂, arith, length-append}
 use mathlib.Core.Path.{fun_ext}
-use Rattle.std.specs.List.{AllByRecursion as All}
+use Rattle.std.specs.List.{AllByRecursion}
 use Rattle.records.specs.declared.action.Action.{Action}
 use Rattle.records.specs.declared.action.Action.TheVariants.{Read, Sync}
 use Rattle.machines.specs.declared.items.RunItem.{RunItem}
@@ -120,7 +120,7 @@ run_few n is m m' w e = bounded runs (RunWithin n) (run_weight n) lowers is m m'
         (h.within, omega arith)
 
 pub run_small : (n : ℕ) (is : List RunItem) (m m' : RunState) → RunWithin n m → feed runs (Ok m) is ≡ Ok m'
-    → All (λ i. run_thread i < n) is
+    → AllByRecursion (λ i. run_thread i < n) is
 run_small n is m m' w e =
     each-taken runs (RunWithin n) (λ i. run_thread i < n)
     (λ m k i w' e'. let h = lighter w' (run_taken m i e') in (h.within, h.in_range)) is m m' w e
@@ -259,6 +259,6 @@ small-item n (Come t) {s} w d =
     )
 
 pub certificate-small : (n : ℕ) (js : List CertificateItem) (s s' : OrderState) → OrderWithin n s
-    → feed certifies (Ok s) js ≡ Ok s' → All (Small n) js
+    → feed certifies (Ok s) js ≡ Ok s' → AllByRecursion (Small n) js
 certificate-small n js s s' w e =
     each-taken certifies (OrderWithin n) (Small n) (λ s k j w' e'. small-item n j w' (certificate_taken s j e')) js s s' w e

@@ -1,6 +1,6 @@
 -- One thread along the run: what is told of its places before each item, and how an item changes it.
 use Rattle.std.proofs.Common.{◌≡◌, ℕ, suc, ◌+◌, ◌<◌, ◌≤◌, Bool, true, false, cond, not, ◌||◌, eqb, ltb, List, [], ◌∷◌, ◌++◌, length, get_or, sym, refl, ap, ◌∙◌, subst, ap₂, ⊎_elim, append-nil, arith}
-use Rattle.std.specs.List.{AllByRecursion as All}
+use Rattle.std.specs.List.{AllByRecursion}
 use Rattle.std.proofs.ByRecursion.{All-append}
 use Rattle.std.proofs.lemmas.Bool.{false≢true, eqb-true, eq-eqb, lt-ltb, ltb-true, not-false, not_from_true, or_parts, or_cases, cond-true, cond-false, cond_both}
 use Rattle.records.specs.declared.action.Action.{Action}
@@ -121,8 +121,8 @@ module _ (c : Case) (js : List RunItem) (t : ℕ) where
     pub grouped : Grouped c js t (length s.old) s.held
     pub wrote : writes_before c t s.next ≡ newest_first s.held s.old
     -- what has come
-    pub past : All (λ q. (when c js t q < i) × (drained c js t q < i)) s.old
-    pub gone : All (λ p. when c js t p < i) s.come
+    pub past : AllByRecursion (λ q. (when c js t q < i) × (drained c js t q < i)) s.old
+    pub gone : AllByRecursion (λ p. when c js t p < i) s.come
     pub each-once : (f : ℕ → Bool) → count f s.next ≡ tally_by f s.come + tally_by f (places s.held)
 
   -- ── An item that is not this thread's ──
@@ -161,14 +161,14 @@ module _ (c : Case) (js : List RunItem) (t : ℕ) where
     drains-later k = let f = v.drains-ahead k in let g = index-skip (drains t) k (Perform t) is refl in omega arith
 
     -- waiting writes come later, and all of them and their reads are before the next place
-    later-writes : All (λ q. i < drained c js t q) (writes_in s.held)
+    later-writes : AllByRecursion (λ q. i < drained c js t q) (writes_in s.held)
     later-writes = dues-writes c js t (λ z. i < z) (length s.old) s.held v.grouped
         (λ k. let f = drains-later k in omega arith)
 
-    later : All (λ x. i < when c js t x) (places s.held)
+    later : AllByRecursion (λ x. i < when c js t x) (places s.held)
     later = dues c js t (λ z. i < z) (length s.old) s.held v.grouped later-writes
 
-    low : All (λ x. x < s.next) (places s.held)
+    low : AllByRecursion (λ x. x < s.next) (places s.held)
     low =
         let f : ℕ → Bool = λ k. not (ltb k s.next) in
         let e = v.each-once f in
@@ -176,13 +176,13 @@ module _ (c : Case) (js : List RunItem) (t : ℕ) where
         all-each (λ x h. ltb-true x s.next (not-false (ltb x s.next) h)) (places s.held)
         (tally_zero f (places s.held) (omega arith))
 
-    low-writes : All (λ q. q < s.next) (writes_in s.held)
+    low-writes : AllByRecursion (λ q. q < s.next) (writes_in s.held)
     low-writes = all-writes (λ q. q < s.next) s.held low
 
     -- what is alike however the action goes on; the rest is what has come and what waits
     onward : (s' : Row) (b' : List Waiting) (gs' : List Group) → s'.next ≡ suc s.next → s'.old ≡ s.old
         → Alike gs' s'.held → waits_of gs' ≡ b' → b' ≡ calls c t s'.held → Grouped c js t (length s.old) s'.held
-        → writes_before c t (suc s.next) ≡ newest_first s'.held s.old → All (λ p. when c js t p < suc i) s'.come
+        → writes_before c t (suc s.next) ≡ newest_first s'.held s.old → AllByRecursion (λ p. when c js t p < suc i) s'.come
         → ((f : ℕ → Bool) → one_if (f s.next) (tally_by f s.come + tally_by f (places s.held))
         ≡ tally_by f s'.come + tally_by f (places s'.held))
         → Follows (suc i) is s' rs b' gs'
@@ -203,13 +203,13 @@ module _ (c : Case) (js : List RunItem) (t : ℕ) where
           by_place = bp;
           grouped = subst (λ l. Grouped c js t (length l) s'.held) (sym eo) gr;
           wrote = ap (writes_before c t) en ∙ wr ∙ ap (newest_first s'.held) (sym eo);
-          past = subst (All (λ q. (when c js t q < suc i) × (drained c js t q < suc i))) (sym eo)
+          past = subst (AllByRecursion (λ q. (when c js t q < suc i) × (drained c js t q < suc i))) (sym eo)
               (all-each (λ q h. (omega arith, omega arith)) s.old v.past);
           gone = go;
           each-once = λ f. ap (count f) en ∙ ap (one_if (f s.next)) (v.each-once f) ∙ eq f;
         }
 
-    gone_on : All (λ p. when c js t p < suc i) s.come
+    gone_on : AllByRecursion (λ p. when c js t p < suc i) s.come
     gone_on = all-each (λ q h. omega arith) s.come v.gone
 
     -- no write: the writes before the next place are the same
@@ -290,12 +290,12 @@ module _ (c : Case) (js : List RunItem) (t : ℕ) where
           (λ f. v.each-once f ∙ sym (tally-append f s.come (places s.held)))
         where
           other : (p : ℕ) → when c js t p < i → (hs : List Group) (d : ℕ) → Grouped c js t d hs
-              → All (λ q. i < drained c js t q) (writes_in hs) → All (λ z. host c js t p ≡ z → ⊥) (writes_in hs)
+              → AllByRecursion (λ q. i < drained c js t q) (writes_in hs) → AllByRecursion (λ z. host c js t p ≡ z → ⊥) (writes_in hs)
           other p h [] d gr l = tt
           other p h (group q y ps ∷ hs) d gr l =
               ((λ k. let o = when-host c js t gr.0 p k in let u = l.0 in omega arith), other p h hs (suc d) gr.2 l.1)
 
-      behind-old : i ≤ when c js t s.next → All (λ q. earlier c js t s.next q ≡ false) s.old
+      behind-old : i ≤ when c js t s.next → AllByRecursion (λ q. earlier c js t s.next q ≡ false) s.old
       behind-old l = all-each (λ q h. not_yet c js t q s.next (sooner-comes q s.next (omega arith))) s.old v.past
 
       moves_are : moves_of c js t s.next (action_at c t s.next) ≡ over c js t s.next (newest_first s.held s.old)
@@ -319,7 +319,7 @@ module _ (c : Case) (js : List RunItem) (t : ℕ) where
           ∙ over-newer c js t s.next x (length s.old) s.held s.old (length s.come)
           v.grouped low-writes h goes marks-are (behind-old late)
         where
-          effects : (hs : List Group) (d : ℕ) → Grouped c js t d hs → All (λ q. effect c js t q ≡ drained c js t q) (writes_in hs)
+          effects : (hs : List Group) (d : ℕ) → Grouped c js t d hs → AllByRecursion (λ q. effect c js t q ≡ drained c js t q) (writes_in hs)
           effects [] d gr = tt
           effects (group q y ps ∷ hs) d gr = (effect-write c js t gr.0, effects hs (suc d) gr.2)
 
@@ -346,7 +346,7 @@ module _ (c : Case) (js : List RunItem) (t : ℕ) where
         let g = index-first (drains t) (Drain t) is (eq-eqb t t refl) in
         ap (λ k. index (drains t) k js) (v.grouped.0.rank ∙ e) ∙ (omega arith)
 
-    pub drain-when : All (λ p. when c js t p ≡ i) (q ∷ ps)
+    pub drain-when : AllByRecursion (λ p. when c js t p ≡ i) (q ∷ ps)
     drain-when = (
       when-host c js t v.grouped.0 q (host-write c js t v.grouped.0) ∙ drained-now,
       all-each (λ p h. when-host c js t v.grouped.0 p h.1 ∙ drained-now) ps v.grouped.0.readers,

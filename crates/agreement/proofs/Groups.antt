@@ -1,6 +1,6 @@
 -- Waiting writes and their reads, by places instead of names.
 use Rattle.std.proofs.Common.{◌≡◌, ℕ, suc, ◌+◌, Bool, true, false, cond, ◌||◌, eqb, List, [], ◌∷◌, ◌++◌, length, sym, refl, ap, ◌∙◌, subst, ap₂, append_assoc, arith, length-append}
-use Rattle.std.specs.List.{AllByRecursion as All}
+use Rattle.std.specs.List.{AllByRecursion}
 use Rattle.std.proofs.lemmas.Bool.{false≢true, cond_both}
 use Rattle.agreement.specs.Convert.{Group, group, holds, joins, mark, shifts, passing, settling, each, released}
 use Rattle.agreement.proofs.Tallies.{all_right, one_if, one_swap, tally_by, tally-append, tally_pull}
@@ -102,11 +102,11 @@ places-snoc (group p z ps ∷ hs) q y =
     ap {B = List ℕ} (λ l. p ∷ (ps ++ l)) (places-snoc hs q y)
     ∙ ap {B = List ℕ} (λ l. p ∷ l) (sym (append_assoc ps (places hs) (q ∷ [])))
 
-pub all-writes : (P : ℕ → Type 0) (hs : List Group) → All P (places hs) → All P (writes_in hs)
+pub all-writes : (P : ℕ → Type 0) (hs : List Group) → AllByRecursion P (places hs) → AllByRecursion P (writes_in hs)
 all-writes P [] h = tt
 all-writes P (group q y ps ∷ hs) h = (h.0, all-writes P hs (all_right P ps (places hs) h.1))
 
-pub newest_in : (P : ℕ → Type 0) (x : ℕ) (hs : List Group) → holds x hs ≡ true → All P (writes_in hs) → P (newest_to x hs)
+pub newest_in : (P : ℕ → Type 0) (x : ℕ) (hs : List Group) → holds x hs ≡ true → AllByRecursion P (writes_in hs) → P (newest_to x hs)
 newest_in P x [] h a = absurd (false≢true h)
 newest_in P x (group q y ps ∷ hs) h a =
     cond_both (holds x hs) (newest_to x hs) q P (λ e. newest_in P x hs e a.1) (λ e. a.0)

@@ -1,6 +1,6 @@
 -- The moves of a read past the waiting writes of its thread: those by moments are those by groups.
 use Rattle.std.proofs.Common.{◌≡◌, ℕ, suc, ◌+◌, ◌<◌, Bool, true, false, cond, eqb, List, [], ◌∷◌, ◌++◌, length, sym, refl, ap, ◌∙◌, subst, ap₂, append_assoc, append-nil, arith, length-append}
-use Rattle.std.specs.List.{AllByRecursion as All}
+use Rattle.std.specs.List.{AllByRecursion}
 use Rattle.std.proofs.ByRecursion.{All-append}
 use Rattle.std.proofs.lemmas.Bool.{false≢true, eq-eqb, ne_eqb, and_from, and_left, and_right, cond-true, cond-false}
 use Rattle.records.specs.Names.{Case}
@@ -21,8 +21,8 @@ module _ (c : Case) (js : List RunItem) (t : ℕ) where
       (count (λ z. earlier c js t z q) a ≡ k) × (count (λ z. joined c js t q z) a ≡ length ps)
       × Marked a (k + suc (length ps)) hs
 
-  hosts-later : (q d : ℕ) (hs : List Group) → Grouped c js t d hs → All (λ z. q < z) (writes_in hs)
-      → All (λ z. q < host c js t z) (places hs)
+  hosts-later : (q d : ℕ) (hs : List Group) → Grouped c js t d hs → AllByRecursion (λ z. q < z) (writes_in hs)
+      → AllByRecursion (λ z. q < host c js t z) (places hs)
   hosts-later q d [] gr l = tt
   hosts-later q d (group r y ps ∷ hs) gr l = (
     subst (λ z. q < z) (sym (host-write c js t gr.0)) l.0,
@@ -37,8 +37,8 @@ module _ (c : Case) (js : List RunItem) (t : ℕ) where
     -- ── Places and counts ──
     -- `pre` and the groups are the actions before a; what is in `pre` comes first and goes with none of the groups' writes
     pub marked : (pre : List ℕ) (d : ℕ) (hs : List Group) → Grouped c js t d hs
-        → All (λ x. All (λ z. earlier c js t x z ≡ true) (places hs)) pre
-        → All (λ x. All (λ z. host c js t x ≡ z → ⊥) (writes_in hs)) pre
+        → AllByRecursion (λ x. AllByRecursion (λ z. earlier c js t x z ≡ true) (places hs)) pre
+        → AllByRecursion (λ x. AllByRecursion (λ z. host c js t x ≡ z → ⊥) (writes_in hs)) pre
         → ((f : ℕ → Bool) → count f a ≡ tally_by f (pre ++ places hs)) → Marked a (length pre) hs
     marked pre d [] gr l o e = tt
     marked pre d (group q y ps ∷ hs) gr l o e = (
@@ -46,18 +46,18 @@ module _ (c : Case) (js : List RunItem) (t : ℕ) where
       e (λ z. joined c js t q z) ∙ tally-append (λ z. joined c js t q z) pre (q ∷ (ps ++ places hs)) ∙ number,
       subst (λ k. Marked a k hs) (length-append pre (q ∷ ps))
           (marked (pre ++ (q ∷ ps)) (suc d) hs gr.2
-          (All-append (λ x. All (λ z. earlier c js t x z ≡ true) (places hs)) pre (q ∷ ps)
+          (All-append (λ x. AllByRecursion (λ z. earlier c js t x z ≡ true) (places hs)) pre (q ∷ ps)
           (all-each (λ x h. all_right (λ z. earlier c js t x z ≡ true) ps (places hs) h.1) pre l)
           (before-newer q (host-write c js t gr.0), all-each (λ p h. before-newer p h.1) ps gr.0.readers))
-          (All-append (λ x. All (λ z. host c js t x ≡ z → ⊥) (writes_in hs)) pre (q ∷ ps) (all-each (λ x h. h.1) pre o)
+          (All-append (λ x. AllByRecursion (λ z. host c js t x ≡ z → ⊥) (writes_in hs)) pre (q ∷ ps) (all-each (λ x h. h.1) pre o)
           (others q (host-write c js t gr.0), all-each (λ p h. others p h.1) ps gr.0.readers))
           (λ f. e f ∙ ap (tally_by f) (sym (append_assoc pre (q ∷ ps) (places hs))))),
     )
       where
-        before-newer : (x : ℕ) → host c js t x ≡ q → All (λ z. earlier c js t x z ≡ true) (places hs)
+        before-newer : (x : ℕ) → host c js t x ≡ q → AllByRecursion (λ z. earlier c js t x z ≡ true) (places hs)
         before-newer x h = ahead c js t q x (goes_with c js t gr.0 x h) (suc d) hs gr.2 gr.1
 
-        others : (x : ℕ) → host c js t x ≡ q → All (λ z. host c js t x ≡ z → ⊥) (writes_in hs)
+        others : (x : ℕ) → host c js t x ≡ q → AllByRecursion (λ z. host c js t x ≡ z → ⊥) (writes_in hs)
         others x h = all-each (λ z l₁ k. omega arith) (writes_in hs) gr.1
 
         -- what is in `pre` comes before the write at q, nothing else does
@@ -91,11 +91,11 @@ module _ (c : Case) (js : List RunItem) (t : ℕ) where
             omega arith
 
     -- ── The moves over no write, over all writes, over those newer than the one that serves ──
-    pub over_none : (qs : List ℕ) → All (λ q. earlier c js t a q ≡ false) qs → over c js t a qs ≡ []
+    pub over_none : (qs : List ℕ) → AllByRecursion (λ q. earlier c js t a q ≡ false) qs → over c js t a qs ≡ []
     over_none [] h = refl
     over_none (q ∷ qs) h = cond-false (earlier c js t a q) _ _ h.0 ∙ over_none qs h.1
 
-    pub over-all : (hs : List Group) (acc : List ℕ) (k : ℕ) → Marked a k hs → All (λ q. earlier c js t a q ≡ true) (writes_in hs)
+    pub over-all : (hs : List Group) (acc : List ℕ) (k : ℕ) → Marked a k hs → AllByRecursion (λ q. earlier c js t a q ≡ true) (writes_in hs)
         → over c js t a (newest_first hs acc) ≡ shifts k (passing hs) ++ over c js t a acc
     over-all [] acc k m h = ap {B = List Mark} (λ l. l ++ over c js t a acc) (sym (shifts-nil k))
     over-all (group q y ps ∷ hs) acc k m h =
@@ -110,8 +110,8 @@ module _ (c : Case) (js : List RunItem) (t : ℕ) where
         (cond-true (earlier c js t a q) _ _ h.0 ∙ ap₂ {C = List Mark} (λ u v. mark u v ∷ rest) m.0 m.1)
         ∙ sym (ap {B = List Mark} (λ l. l ++ rest) moves_it ∙ append_assoc newer (mark k n ∷ []) rest)
 
-    pub over-newer : (x d : ℕ) (hs : List Group) (acc : List ℕ) (k : ℕ) → Grouped c js t d hs → All (λ q. q < a) (writes_in hs)
-        → holds x hs ≡ true → Goes c js t (newest_to x hs) a → Marked a k hs → All (λ q. earlier c js t a q ≡ false) acc
+    pub over-newer : (x d : ℕ) (hs : List Group) (acc : List ℕ) (k : ℕ) → Grouped c js t d hs → AllByRecursion (λ q. q < a) (writes_in hs)
+        → holds x hs ≡ true → Goes c js t (newest_to x hs) a → Marked a k hs → AllByRecursion (λ q. earlier c js t a q ≡ false) acc
         → over c js t a (newest_first hs acc) ≡ shifts k (settling x hs)
     over-newer x d [] acc k gr l h g m o = absurd (false≢true h)
     over-newer x d (group q y ps ∷ hs) acc k gr l h g m o =

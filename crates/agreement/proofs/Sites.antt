@@ -1,6 +1,6 @@
 -- Lists of actions by thread and place: whose they are, how often each comes, and that they rise by moments.
 use Rattle.std.proofs.Common.{◌≡◌, ℕ, zero, suc, ◌+◌, ◌<◌, ◌≤◌, true, ◌&&◌, eqb, ◌≢◌, List, [], ◌∷◌, ◌++◌, sym, refl, ap, ◌∙◌, subst, ⊎_elim, arith}
-use Rattle.std.specs.List.{AllByRecursion as All}
+use Rattle.std.specs.List.{AllByRecursion}
 use Rattle.std.proofs.lemmas.Bool.{eq-eqb, cases_eq}
 use Rattle.records.specs.Names.{Case}
 use Rattle.machines.specs.declared.items.RunItem.{RunItem}
@@ -86,11 +86,11 @@ module _ (c : Case) (js : List RunItem) where
   late_down i [] h = tt
   late_down i (site t p ∷ l) h = ((omega arith), late_down i l h.1)
 
-  pub late-each : (i t : ℕ) (xs : List ℕ) (l : List Site) → All (λ x. when c js t x ≡ i) xs → Late i l → Late i (each_site t xs l)
+  pub late-each : (i t : ℕ) (xs : List ℕ) (l : List Site) → AllByRecursion (λ x. when c js t x ≡ i) xs → Late i l → Late i (each_site t xs l)
   late-each i t [] l h k = k
   late-each i t (x ∷ xs) l h k = ((omega arith), late-each i t xs l h.1 k)
 
-  first-each : (u x t : ℕ) (xs : List ℕ) (l : List Site) → All (λ z. before (moment c js u x) (moment c js t z) ≡ true) xs
+  first-each : (u x t : ℕ) (xs : List ℕ) (l : List Site) → AllByRecursion (λ z. before (moment c js u x) (moment c js t z) ≡ true) xs
       → First c js (site u x) l → First c js (site u x) (each_site t xs l)
   first-each u x t [] l h k = k
   first-each u x t (z ∷ xs) l h k = (h.0, first-each u x t xs l h.1 k)
@@ -103,7 +103,7 @@ module _ (c : Case) (js : List RunItem) where
     first-late t x i l h k.1,
   )
 
-  pub rising-each : (t : ℕ) (xs : List ℕ) (l : List Site) → RisingIn c js t xs → All (λ x. First c js (site t x) l) xs
+  pub rising-each : (t : ℕ) (xs : List ℕ) (l : List Site) → RisingIn c js t xs → AllByRecursion (λ x. First c js (site t x) l) xs
       → Rising c js l → Rising c js (each_site t xs l)
   rising-each t [] l r f k = k
   rising-each t (x ∷ xs) l r f k = (first-each t x t xs l r.0 f.0, rising-each t xs l r.1 f.1 k)
@@ -113,7 +113,7 @@ module _ (c : Case) (js : List RunItem) where
   rising-left t (x ∷ xs) ys r = (all_left (λ z. earlier c js t x z ≡ true) xs ys r.0, rising-left t xs ys r.1)
 
   -- the groups that wait at the end come after the last item, by thread and then by age
-  module _ (i : ℕ) (hs : ℕ → List Group) (now : (u : ℕ) → All (λ x. when c js u x ≡ i) (places (hs u)))
+  module _ (i : ℕ) (hs : ℕ → List Group) (now : (u : ℕ) → AllByRecursion (λ x. when c js u x ≡ i) (places (hs u)))
       (up : (u : ℕ) → RisingIn c js u (places (hs u))) where
     first-flushed : (t x d j : ℕ) → t < j → when c js t x ≡ i → First c js (site t x) (flushed_sites d j hs)
     first-flushed t x zero j l e = tt

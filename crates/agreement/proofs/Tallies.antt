@@ -1,20 +1,20 @@
 -- How many numbers of a list, and how many below a bound, pass a test.
 use Rattle.std.proofs.Common.{◌≡◌, ℕ, zero, suc, ◌+◌, ◌<◌, ◌≤◌, Bool, true, false, cond, eqb, ltb, ◌≢◌, List, [], ◌∷◌, ◌++◌, length, sym, refl, ap, ◌∙◌, ⊎_elim, append-nil, arith}
-use Rattle.std.specs.List.{AllByRecursion as All}
+use Rattle.std.specs.List.{AllByRecursion}
 use Rattle.std.proofs.ByRecursion.{All-weaker}
 use Rattle.std.proofs.lemmas.Bool.{eq-eqb, ne_eqb, lt-ltb, le-ltb, cases_lt, cases_eq, cond-true, cond-false}
 use Rattle.agreement.specs.Moments.{count}
 
 -- ── What holds of each number of a list ──
-pub all-each : {P Q : ℕ → Type 0} → ((x : ℕ) → P x → Q x) → (xs : List ℕ) → All P xs → All Q xs
+pub all-each : {P Q : ℕ → Type 0} → ((x : ℕ) → P x → Q x) → (xs : List ℕ) → AllByRecursion P xs → AllByRecursion Q xs
 all-each {P} {Q} f xs h = All-weaker P Q f xs h
 
 module _ (P : ℕ → Type 0) where
-  pub all_left : (xs ys : List ℕ) → All P (xs ++ ys) → All P xs
+  pub all_left : (xs ys : List ℕ) → AllByRecursion P (xs ++ ys) → AllByRecursion P xs
   all_left [] ys h = tt
   all_left (x ∷ xs) ys h = (h.0, all_left xs ys h.1)
 
-  pub all_right : (xs ys : List ℕ) → All P (xs ++ ys) → All P ys
+  pub all_right : (xs ys : List ℕ) → AllByRecursion P (xs ++ ys) → AllByRecursion P ys
   all_right [] ys h = h
   all_right (x ∷ xs) ys h = all_right xs ys h.1
 
@@ -55,20 +55,20 @@ module _ (f : ℕ → Bool) where
   pub tally-snoc : (xs : List ℕ) (x : ℕ) → tally_by (xs ++ (x ∷ [])) ≡ one_if (f x) (tally_by xs)
   tally-snoc xs x = tally_pull x xs [] ∙ ap (λ l. tally_by (x ∷ l)) (append-nil xs)
 
-  pub tally-all : (xs : List ℕ) → All (λ x. f x ≡ true) xs → tally_by xs ≡ length xs
+  pub tally-all : (xs : List ℕ) → AllByRecursion (λ x. f x ≡ true) xs → tally_by xs ≡ length xs
   tally-all [] h = refl
   tally-all (x ∷ xs) h = cond-true (f x) (suc (tally_by xs)) (tally_by xs) h.0 ∙ ap suc (tally-all xs h.1)
 
-  pub tally-none : (xs : List ℕ) → All (λ x. f x ≡ false) xs → tally_by xs ≡ 0
+  pub tally-none : (xs : List ℕ) → AllByRecursion (λ x. f x ≡ false) xs → tally_by xs ≡ 0
   tally-none [] h = refl
   tally-none (x ∷ xs) h = cond-false (f x) (suc (tally_by xs)) (tally_by xs) h.0 ∙ tally-none xs h.1
 
-  pub tally_zero : (xs : List ℕ) → tally_by xs ≡ 0 → All (λ x. f x ≡ false) xs
+  pub tally_zero : (xs : List ℕ) → tally_by xs ≡ 0 → AllByRecursion (λ x. f x ≡ false) xs
   tally_zero [] e = tt
   tally_zero (x ∷ xs) e = go (f x) refl e (λ k. tally_zero xs k)
     where
-      go : (b : Bool) → f x ≡ b → one_if b (tally_by xs) ≡ 0 → (tally_by xs ≡ 0 → All (λ x. f x ≡ false) xs)
-          → (f x ≡ false) × All (λ x. f x ≡ false) xs
+      go : (b : Bool) → f x ≡ b → one_if b (tally_by xs) ≡ 0 → (tally_by xs ≡ 0 → AllByRecursion (λ x. f x ≡ false) xs)
+          → (f x ≡ false) × AllByRecursion (λ x. f x ≡ false) xs
       go true q k rec = absurd (omega arith)
       go false q k rec = (q, rec k)
 

@@ -2,7 +2,7 @@
 use Rattle.std.proofs.Common.{◌≡◌, ℕ, ◌+◌, ◌*◌, ◌<◌, ◌≤◌, false, List, [], map, length, Ok, sym, refl, ap, ◌∙◌, subst, not-suc-le-zero, arith}
 use mathlib.Core.Path.{fun_ext}
 use lib.ListN.{length-map}
-use Rattle.std.specs.List.{AllByRecursion as All}
+use Rattle.std.specs.List.{AllByRecursion}
 use Rattle.std.proofs.ByRecursion.{All-weaker, All-map}
 use Rattle.records.specs.declared.Item.{Item}
 use Rattle.records.specs.declared.Record.{Record}
@@ -155,9 +155,9 @@ module _ (xs : List Record) (is : List Item) (s : RunState) (e : reached (run_ma
       let g = sym (length-map (run_items is) run_encoded) ∙ ap length run-are in
       omega arith
 
-  run_fits : All Fits is
+  run_fits : AllByRecursion Fits is
   run_fits =
-      subst (All Fits) run-are
+      subst (AllByRecursion Fits) run-are
       (All-map Fits run_encoded (run_items is)
       (All-weaker (λ i. run_thread i < 8) (λ i. Fits (run_encoded i)) fits (run_items is)
       (run_small 8 (run_items is) (fresh_run (threads_of xs)) s run-within run_feeds)))
@@ -209,10 +209,10 @@ module _ (xs : List Record) (js : List Item) (s : OrderState) (e : reached (cert
       let f = h.few in
       omega arith
 
-  certificate_fits : Sized xs → All Fits js
+  certificate_fits : Sized xs → AllByRecursion Fits js
   certificate_fits h =
       let c = threads_of xs in
-      subst (All Fits) certificate-are
+      subst (AllByRecursion Fits) certificate-are
       (All-map Fits certificate_encoded (certificate_items js)
       (All-weaker (Small 8) (λ j. Fits (certificate_encoded j)) fits (certificate_items js)
       (certificate-small 8 (certificate_items js) (fresh_order c) s

@@ -1,6 +1,6 @@
 -- From a certificate to a run: what the replay of a complete order performs and drains is a complete run.
 use Rattle.std.proofs.Common.{◌≡◌, ℕ, suc, ◌+◌, ◌-◌, ◌<◌, ◌≤◌, true, List, [], ◌∷◌, ◌++◌, sym, refl, ap, ◌∙◌, subst, subst₂, arith}
-use Rattle.std.specs.List.{AllByRecursion as All}
+use Rattle.std.specs.List.{AllByRecursion}
 use Rattle.std.proofs.ByRecursion.{All-append, All-weaker}
 use Rattle.records.specs.declared.action.Action.{Action}
 use Rattle.records.specs.declared.action.Action.TheVariants.{Read, Write, Sync}
@@ -24,10 +24,10 @@ NamedFrom i (a ∷ rs) = (name_of a ≡ i) × NamedFrom (suc i) rs
 
 -- ── What is performed: its names are below a bound ──
 abbrev Below : ℕ → List ℕ → Type 0
-Below m ns = All (λ n. n < m) ns
+Below m ns = AllByRecursion (λ n. n < m) ns
 
 abbrev Seen : ℕ → List Action → Type 0
-Seen m R = All (λ a. name_of a < m) R
+Seen m R = AllByRecursion (λ a. name_of a < m) R
 
 abbrev Old : ℕ → List Group → Type 0
 Old m [] = Unit {0}

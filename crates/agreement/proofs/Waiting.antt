@@ -1,6 +1,6 @@
 -- The moments of a thread's waiting writes, and of the reads that go with them.
 use Rattle.std.proofs.Common.{◌≡◌, ℕ, suc, ◌+◌, ◌<◌, ◌≤◌, Bool, true, false, cond, ◌&&◌, ◌||◌, eqb, ltb, List, [], ◌∷◌, ◌++◌, length, sym, refl, ap, ◌∙◌, subst, ap₂, arith}
-use Rattle.std.specs.List.{AllByRecursion as All}
+use Rattle.std.specs.List.{AllByRecursion}
 use Rattle.std.proofs.ByRecursion.{All-append}
 use Rattle.std.proofs.lemmas.Bool.{false≢true, lt-ltb, le-ltb, and_from, and_left, and_right, or_parts, cond-true, cond-false}
 use Rattle.records.specs.declared.action.Action.TheVariants.{Write}
@@ -17,9 +17,9 @@ use Rattle.agreement.proofs.Indices.{drained_up}
 -- rising numbers
 abbrev Ascending : List ℕ → Type 0
 Ascending [] = Unit {0}
-Ascending (x ∷ xs) = All (λ y. x < y) xs × Ascending xs
+Ascending (x ∷ xs) = AllByRecursion (λ y. x < y) xs × Ascending xs
 
-ascending-snoc : (xs : List ℕ) (a : ℕ) → Ascending xs → All (λ x. x < a) xs → Ascending (xs ++ (a ∷ []))
+ascending-snoc : (xs : List ℕ) (a : ℕ) → Ascending xs → AllByRecursion (λ x. x < a) xs → Ascending (xs ++ (a ∷ []))
 ascending-snoc [] a h l = (tt, tt)
 ascending-snoc (x ∷ xs) a h l = (All-append (λ y. x < y) xs (a ∷ []) h.0 (l.0, tt), ascending-snoc xs a h.1 l.1)
 
@@ -33,12 +33,12 @@ module _ (c : Case) (js : List RunItem) (t : ℕ) where
   pub record Held (d q y : ℕ) (ps : List ℕ) : Type 0 where
     pub kind : (n : ℕ) × (action_at c t q ≡ Write n y)
     pub rank : length (writes_before c t q) ≡ d
-    pub readers : All (λ p. (is_read (action_at c t p) ≡ true) × (host c js t p ≡ q) × (q < p)) ps
+    pub readers : AllByRecursion (λ p. (is_read (action_at c t p) ≡ true) × (host c js t p ≡ q) × (q < p)) ps
     pub ascending : Ascending ps
 
   abbrev pub Grouped : ℕ → List Group → Type 0
   Grouped d [] = Unit {0}
-  Grouped d (group q y ps ∷ hs) = Held d q y ps × All (λ z. q < z) (writes_in hs) × Grouped (suc d) hs
+  Grouped d (group q y ps ∷ hs) = Held d q y ps × AllByRecursion (λ z. q < z) (writes_in hs) × Grouped (suc d) hs
 
   -- x comes with the write at q
   abbrev pub Goes : ℕ → ℕ → Type 0
@@ -78,8 +78,8 @@ module _ (c : Case) (js : List RunItem) (t : ℕ) where
   not_yet x z h = before_not (moment c js t x) (moment c js t z) h
 
   -- what goes with a write comes before all newer groups
-  pub ahead : (q x : ℕ) → Goes q x → (d : ℕ) (hs : List Group) → Grouped d hs → All (λ z. q < z) (writes_in hs)
-      → All (λ z. earlier c js t x z ≡ true) (places hs)
+  pub ahead : (q x : ℕ) → Goes q x → (d : ℕ) (hs : List Group) → Grouped d hs → AllByRecursion (λ z. q < z) (writes_in hs)
+      → AllByRecursion (λ z. earlier c js t x z ≡ true) (places hs)
   ahead q x g d [] gr l = tt
   ahead q x g d (group r y ps ∷ hs) gr l = (
     with_older q x r r g (goes_self gr.0) l.0,
@@ -91,17 +91,17 @@ module _ (c : Case) (js : List RunItem) (t : ℕ) where
   -- rising by moments
   abbrev pub RisingIn : List ℕ → Type 0
   RisingIn [] = Unit {0}
-  RisingIn (x ∷ xs) = All (λ z. earlier c js t x z ≡ true) xs × RisingIn xs
+  RisingIn (x ∷ xs) = AllByRecursion (λ z. earlier c js t x z ≡ true) xs × RisingIn xs
 
-  rise-readers : (q : ℕ) (ps zs : List ℕ) → Ascending ps → All (λ p. Goes q p) ps
-      → All (λ p. All (λ z. earlier c js t p z ≡ true) zs) ps → RisingIn zs → RisingIn (ps ++ zs)
+  rise-readers : (q : ℕ) (ps zs : List ℕ) → Ascending ps → AllByRecursion (λ p. Goes q p) ps
+      → AllByRecursion (λ p. AllByRecursion (λ z. earlier c js t p z ≡ true) zs) ps → RisingIn zs → RisingIn (ps ++ zs)
   rise-readers q [] zs a g h r = r
   rise-readers q (p ∷ ps) zs a g h r = (
     All-append (λ z. earlier c js t p z ≡ true) ps zs (later ps a.0 g.1) h.0,
     rise-readers q ps zs a.1 g.1 h.1 r,
   )
     where
-      later : (us : List ℕ) → All (λ y. p < y) us → All (λ u. Goes q u) us → All (λ z. earlier c js t p z ≡ true) us
+      later : (us : List ℕ) → AllByRecursion (λ y. p < y) us → AllByRecursion (λ u. Goes q u) us → AllByRecursion (λ z. earlier c js t p z ≡ true) us
       later [] l k = tt
       later (u ∷ us) l k = (with_same q p u g.0 k.0 l.0, later us l.1 k.1)
 
@@ -109,7 +109,7 @@ module _ (c : Case) (js : List RunItem) (t : ℕ) where
   rise d [] gr = tt
   rise d (group q y ps ∷ hs) gr =
       let k = gr.0.readers in
-      let goes : All (λ p. Goes q p) ps = all-each (λ p h. goes_with gr.0 p h.1) ps k in (
+      let goes : AllByRecursion (λ p. Goes q p) ps = all-each (λ p h. goes_with gr.0 p h.1) ps k in (
         All-append (λ z. earlier c js t q z ≡ true) ps (places hs)
             (all-each (λ p h. with_same q q p (goes_self gr.0) (goes_with gr.0 p h.1) h.2) ps k)
             (ahead q q (goes_self gr.0) (suc d) hs gr.2 gr.1),
@@ -119,7 +119,7 @@ module _ (c : Case) (js : List RunItem) (t : ℕ) where
 
   -- ── When they come ──
   pub dues-writes : (P : ℕ → Type 0) (d : ℕ) (hs : List Group) → Grouped d hs → ((k : ℕ) → P (index (drains t) (d + k) js))
-      → All (λ q. P (drained c js t q)) (writes_in hs)
+      → AllByRecursion (λ q. P (drained c js t q)) (writes_in hs)
   dues-writes P d [] gr f = tt
   dues-writes P d (group q y ps ∷ hs) gr f =
       let now : d + 0 ≡ length (writes_before c t q) = let e = gr.0.rank in omega arith in (
@@ -129,7 +129,7 @@ module _ (c : Case) (js : List RunItem) (t : ℕ) where
       )
 
   pub dues : (P : ℕ → Type 0) (d : ℕ) (hs : List Group) → Grouped d hs
-      → All (λ q. P (drained c js t q)) (writes_in hs) → All (λ x. P (when x)) (places hs)
+      → AllByRecursion (λ q. P (drained c js t q)) (writes_in hs) → AllByRecursion (λ x. P (when x)) (places hs)
   dues P d [] gr w = tt
   dues P d (group q y ps ∷ hs) gr w = (
     subst P (sym (when-host gr.0 q (host-write gr.0))) w.0,
@@ -139,18 +139,18 @@ module _ (c : Case) (js : List RunItem) (t : ℕ) where
   )
 
   -- ── New members ──
-  pub grouped-snoc : (d a y : ℕ) (hs : List Group) → Grouped d hs → All (λ q. q < a) (writes_in hs)
+  pub grouped-snoc : (d a y : ℕ) (hs : List Group) → Grouped d hs → AllByRecursion (λ q. q < a) (writes_in hs)
       → Held (d + length hs) a y [] → Grouped d (hs ++ (group a y [] ∷ []))
   grouped-snoc d a y [] gr l h = (subst (λ z. Held z a y []) (omega arith) h, tt, tt)
   grouped-snoc d a y (group q z ps ∷ hs) gr l h =
       (gr.0, snoc hs gr.1, grouped-snoc (suc d) a y hs gr.2 l.1 (subst (λ z. Held z a y []) (omega arith) h))
     where
-      snoc : (ks : List Group) → All (λ z. q < z) (writes_in ks) → All (λ z. q < z) (writes_in (ks ++ (group a y [] ∷ [])))
+      snoc : (ks : List Group) → AllByRecursion (λ z. q < z) (writes_in ks) → AllByRecursion (λ z. q < z) (writes_in (ks ++ (group a y [] ∷ [])))
       snoc [] k = (l.0, tt)
       snoc (group r u us ∷ ks) k = (k.0, snoc ks k.1)
 
   pub grouped-join : (a x : ℕ) → is_read (action_at c t a) ≡ true → (d : ℕ) (hs : List Group) → Grouped d hs
-      → All (λ q. q < a) (places hs) → holds x hs ≡ true → host c js t a ≡ newest_to x hs → Grouped d (joins a x hs)
+      → AllByRecursion (λ q. q < a) (places hs) → holds x hs ≡ true → host c js t a ≡ newest_to x hs → Grouped d (joins a x hs)
   grouped-join a x r d [] gr l h e = absurd (false≢true h)
   grouped-join a x r d (group q y ps ∷ hs) gr l h e =
       go (holds x hs) refl e (λ k g. grouped-join a x r (suc d) hs gr.2 (all_right (λ q. q < a) ps (places hs) l.1) k g)
@@ -158,7 +158,7 @@ module _ (c : Case) (js : List RunItem) (t : ℕ) where
       go : (b : Bool) → holds x hs ≡ b → host c js t a ≡ cond b (newest_to x hs) q
           → (holds x hs ≡ true → host c js t a ≡ newest_to x hs → Grouped (suc d) (joins a x hs))
           → Grouped d (cond b (group q y ps ∷ joins a x hs) (group q y (ps ++ (a ∷ [])) ∷ hs))
-      go true k g rec = (gr.0, subst (λ l. All (λ z. q < z) l) (sym (writes_in-joins a x hs)) gr.1, rec k g)
+      go true k g rec = (gr.0, subst (λ l. AllByRecursion (λ z. q < z) l) (sym (writes_in-joins a x hs)) gr.1, rec k g)
       go false k g rec = (
         record {
           kind = gr.0.kind;
@@ -184,13 +184,13 @@ module _ (c : Case) (js : List RunItem) (t : ℕ) where
         served_none (suc d) hs (q ∷ acc) gr.2 o.1
         ∙ cond-false (Serves q) q _ (and_left (writes_to x (action_at c t q)) _ (ap (writes_to x) gr.0.kind.1 ∙ o.0))
 
-    pub served_old : (qs : List ℕ) → All (λ q. drained c js t q ≤ performed c js t a) qs → served_by c js t a x qs ≡ a
+    pub served_old : (qs : List ℕ) → AllByRecursion (λ q. drained c js t q ≤ performed c js t a) qs → served_by c js t a x qs ≡ a
     served_old [] h = refl
     served_old (q ∷ qs) h =
         cond-false (Serves q) q _ (and_right (writes_to x (action_at c t q)) _ (le-ltb _ _ h.0)) ∙ served_old qs h.1
 
     pub served_newest : (d : ℕ) (hs : List Group) (acc : List ℕ) → Grouped d hs → holds x hs ≡ true
-        → All (λ q. performed c js t a < drained c js t q) (writes_in hs)
+        → AllByRecursion (λ q. performed c js t a < drained c js t q) (writes_in hs)
         → served_by c js t a x (newest_first hs acc) ≡ newest_to x hs
     served_newest d [] acc gr h l = absurd (false≢true h)
     served_newest d (group q y ps ∷ hs) acc gr h l =

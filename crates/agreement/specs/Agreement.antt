@@ -1,6 +1,6 @@
 -- Run and certificate agree: the theorems that contracts cite, on raw evidence for the case of a list of records.
 use Rattle.std.specs.Prelude.{◌≡◌, ℕ, ◌+◌, ◌<◌, ◌≤◌, true, ◌↔◌, List, map, length, Some, Ok}
-use Rattle.std.specs.List.{AllByRecursion as All}
+use Rattle.std.specs.List.{AllByRecursion}
 use Rattle.records.specs.declared.Item.{Item}
 use Rattle.records.specs.declared.Record.{Record}
 use Rattle.records.specs.Names.{Case, at, of_thread, threads_of}
@@ -53,11 +53,11 @@ pub record Few : Type 0 where
   pub of_runs : (xs : List Record) (is : List Item) (s : RunState) → Sized xs
       → reached (run_machine (threads_of xs)) is ≡ Ok s → length is ≤ 512
   pub run_fits : (xs : List Record) (is : List Item) (s : RunState)
-      → reached (run_machine (threads_of xs)) is ≡ Ok s → All Fits is
+      → reached (run_machine (threads_of xs)) is ≡ Ok s → AllByRecursion Fits is
   pub of_certificates : (xs : List Record) (js : List Item) (s : OrderState) → Sized xs
       → reached (certificate_machine (threads_of xs)) js ≡ Ok s → length js ≤ 4352
   pub certificate_fits : (xs : List Record) (js : List Item) (s : OrderState) → Sized xs
-      → reached (certificate_machine (threads_of xs)) js ≡ Ok s → All Fits js
+      → reached (certificate_machine (threads_of xs)) js ≡ Ok s → AllByRecursion Fits js
   -- each move reverses one pair
   pub reversing : (xs : List Record) (js : List Item) (s : OrderState)
       → reached (certificate_machine (threads_of xs)) js ≡ Ok s
@@ -79,7 +79,7 @@ pub record ToCertificate : Type 0 where
   pub items_few : (xs : List Record) (is : List Item) → Sized xs → CompleteRun xs is
       → length (written (threads_of xs) is) ≤ 4352
   pub items_fit : (xs : List Record) (is : List Item) → Sized xs → CompleteRun xs is
-      → All Fits (written (threads_of xs) is)
+      → AllByRecursion Fits (written (threads_of xs) is)
 
 -- What a complete certificate is replayed to is a complete run.
 pub record ToRun : Type 0 where
@@ -88,7 +88,7 @@ pub record ToRun : Type 0 where
   pub run_few : (xs : List Record) (js : List Item) → Sized xs → CompleteCertificate xs js
       → length (replayed (threads_of xs) js) ≤ 512
   pub run_fit : (xs : List Record) (js : List Item) → CompleteCertificate xs js
-      → All Fits (replayed (threads_of xs) js)
+      → AllByRecursion Fits (replayed (threads_of xs) js)
 
 -- ── Moments ──
 pub record ByMoments : Type 0 where

@@ -1,6 +1,6 @@
 -- What rule 12 gives: targets, turns and locations in range.
 use Rattle.std.proofs.Common.{◌≡◌, ℕ, ◌<◌, ◌≤◌, true, false, not, eqb, leb, List, [], ◌∷◌, IfSome, Some, codes, Option, sym, refl, ap, ◌∙◌, subst, ⊎_elim, arith}
-use Rattle.std.specs.List.{AllByRecursion as All}
+use Rattle.std.specs.List.{AllByRecursion}
 use Rattle.std.proofs.lemmas.Bool.{both_ways, cases_Bool, and_parts, or_cases, eqb-true, leb-true, cond-true, cond-false, cond_both, not-false}
 use Rattle.std.proofs.lemmas.Bool.Decides.{nat_tests}
 use Rattle.records.specs.declared.Record.{Record}
@@ -11,7 +11,7 @@ use Rattle.form.specs.Rules.{limit, within, used_or_zero, turn_fits, well_formed
 use Rattle.form.specs.Lives.{subject}
 
 -- letters that have one limit
-among-limit : (c : ℕ) (m : Option ℕ) (l : List ℕ) → All (λ a. limit a ≡ m) l → among c l ≡ true → limit c ≡ m
+among-limit : (c : ℕ) (m : Option ℕ) (l : List ℕ) → AllByRecursion (λ a. limit a ≡ m) l → among c l ≡ true → limit c ≡ m
 among-limit c m [] h e = absurd (both_ways false refl e)
 among-limit c m (a ∷ l) h e = ⊎_elim (λ t. ap limit (eqb-true c a t) ∙ h.0) (among-limit c m l h.1) (or_cases (eqb c a) (among c l) e)
 
@@ -22,7 +22,7 @@ module _ (r : Record) (h : not (well_formed r) ≡ false) where
       let b = and_parts (used_or_zero (is_write r.letter) r.value) _ a.1 in
       (a.0, (and_parts (used_or_zero (is_read r.letter) r.seen) _ b.1).1)
 
-  target_most : (m : ℕ) (l : List ℕ) → All (λ a. limit a ≡ Some m) l → among r.letter l ≡ true → r.target ≤ m
+  target_most : (m : ℕ) (l : List ℕ) → AllByRecursion (λ a. limit a ≡ Some m) l → among r.letter l ≡ true → r.target ≤ m
   target_most m l a e = leb-true r.target m (ap (within r.target) (sym (among-limit r.letter (Some m) l a e)) ∙ parts.0)
 
   pub plain_target : is_plain r.letter ≡ true → r.target < 64

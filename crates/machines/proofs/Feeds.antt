@@ -1,6 +1,6 @@
 -- Any step that takes items or refuses them: what is told by a list of items that is taken to its end.
 use Rattle.std.proofs.Common.{◌≡◌, ℕ, ◌<◌, ◌≤◌, Bool, true, false, List, [], ◌∷◌, ◌++◌, length, Ok, Err, Result, refl, ap, ◌∙◌, arith}
-use Rattle.std.specs.List.{AllByRecursion as All}
+use Rattle.std.specs.List.{AllByRecursion}
 use Rattle.std.proofs.lemmas.Bool.{false≢true}
 use Rattle.records.specs.declared.Item.{Item}
 use Rattle.machines.specs.Machine.{Machine, need, feed, reached, ended, completes}
@@ -80,7 +80,7 @@ module _ {S I : Type 0} (step : S → I → Result S ℕ) (Keeps : S → Type 0)
       omega arith
 
   pub each-taken : (Q : I → Type 0) → ((s k : S) (i : I) → Keeps s → step s i ≡ Ok k → Keeps k × Q i)
-      → (is : List I) (s s' : S) → Keeps s → feed step (Ok s) is ≡ Ok s' → All Q is
+      → (is : List I) (s s' : S) → Keeps s → feed step (Ok s) is ≡ Ok s' → AllByRecursion Q is
   each-taken Q tells [] s s' k e = tt
   each-taken Q tells (i ∷ is) s s' k e =
       let h = stepped step i is s s' e in

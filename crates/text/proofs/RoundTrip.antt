@@ -1,6 +1,6 @@
 -- The text of rows is read as these rows, and a text that is read is the text of what was read.
 use Rattle.std.proofs.Common.{◌≡◌, ℕ, suc, ◌+◌, ◌-◌, ◌*◌, ◌<◌, ◌≤◌, min, Bool, true, false, cond, eqb, ltb, ◌⊎◌, List, [], ◌∷◌, ◌++◌, length, drop, Some, None, Ok, Err, decimal, Option, Result, sym, refl, ap, ◌∙◌, ⊎_elim, append_assoc, mul-le-mul_right, mul-le-mul_left, arith, length-append}
-use Rattle.std.specs.List.{flat_map, AllByRecursion as All}
+use Rattle.std.specs.List.{flat_map, AllByRecursion}
 use Rattle.std.proofs.lemmas.Fmt.{digits_decimal}
 use Rattle.std.proofs.ByRecursion.{All-from_get_or, All-weaker, All-append}
 use Rattle.std.proofs.lemmas.Slice.Eq.{bytes_eq-Decides}
@@ -48,7 +48,7 @@ most-rows sh m = omega (arith, m.short, mul-le-mul_left sh.most (some-width sh.c
 
 -- ── The bytes of cells are digits and letters ──
 abbrev High : List ℕ → Type 0
-High s = All (λ x. 48 ≤ x) s
+High s = AllByRecursion (λ x. 48 ≤ x) s
 
 high-free : (c : ℕ) (s : List ℕ) → c < 48 → High s → Free c s
 high-free c s l h = All-weaker (λ x. 48 ≤ x) (λ x. eqb x c ≡ false) (λ x le. ne_eqb x c (λ e. omega arith)) s h
@@ -60,7 +60,7 @@ cell-high (numbers most) n p h w =
     All-from_get_or (λ x. 48 ≤ x) (decimal n) 0 (λ i l. (digit_at (decimal n) i d l).0)
 cell-high (letters ls) n p h w = (omega (arith, letter-high n (among-letter n ls p h)), tt)
 
-texts-free : (c : ℕ) (ks : List Column) (ns : List ℕ) → c < 48 → all_proper ks ≡ true → Fit ks ns → All (Free c) (cell_texts ks ns)
+texts-free : (c : ℕ) (ks : List Column) (ns : List ℕ) → c < 48 → all_proper ks ≡ true → Fit ks ns → AllByRecursion (Free c) (cell_texts ks ns)
 texts-free c [] ns l p f = tt
 texts-free c (k ∷ ks) [] l p f = tt
 texts-free c (k ∷ ks) (n ∷ ns) l p f =
@@ -74,7 +74,7 @@ length-texts [] ns w = refl
 length-texts (k ∷ ks) [] w = absurd (false≢true w)
 length-texts (k ∷ ks) (n ∷ ns) w = ap suc (length-texts ks ns (and_parts (within k n) (all_within ks ns) w).1)
 
-join_free : (c : ℕ) (ps : List (List ℕ)) → eqb comma c ≡ false → All (Free c) ps → Free c (join comma ps)
+join_free : (c : ℕ) (ps : List (List ℕ)) → eqb comma c ≡ false → AllByRecursion (Free c) ps → Free c (join comma ps)
 join_free c [] ne h = tt
 join_free c (p ∷ []) ne h = h.0
 join_free c (p ∷ q ∷ ps) ne h = All-append (λ x. eqb x c ≡ false) p (comma ∷ join comma (q ∷ ps)) h.0 (ne, join_free c (q ∷ ps) ne h.1)
@@ -98,12 +98,12 @@ line-short (k ∷ k' ∷ ks) (n ∷ n' ∷ ns) l p w =
 length-ended : (s : List ℕ) → length (ended s) ≡ length s + 2
 length-ended s = length-append s (cr ∷ lf ∷ [])
 
-rows_short : (ks : List Column) (rows : List (List ℕ)) → 0 < length ks → all_proper ks ≡ true → All (Fit ks) rows → length (flat_map (row_text ks) rows) ≤ length rows * widths ks
+rows_short : (ks : List Column) (rows : List (List ℕ)) → 0 < length ks → all_proper ks ≡ true → AllByRecursion (Fit ks) rows → length (flat_map (row_text ks) rows) ≤ length rows * widths ks
 rows_short ks [] l p h = omega arith
 rows_short ks (r ∷ rs) l p (f, h) =
     omega (arith, rows_short ks rs l p h, line-short ks r l p f.holds, length-ended (join comma (cell_texts ks r)), length-append (row_text ks r) (flat_map (row_text ks) rs))
 
-pub text-short : (sh : Sheet) (rows : List (List ℕ)) → Made sh → All (Fit sh.columns) rows → length rows ≤ sh.most → length (text_of sh rows) ≤ 65535
+pub text-short : (sh : Sheet) (rows : List (List ℕ)) → Made sh → AllByRecursion (Fit sh.columns) rows → length rows ≤ sh.most → length (text_of sh rows) ≤ 65535
 text-short sh rows m h few =
     omega (arith, rows_short sh.columns rows m.some m.good h, mul-le-mul_right (widths sh.columns) few, m.short, length-ended sh.header, length-append (ended sh.header) (flat_map (row_text sh.columns) rows))
 
@@ -122,7 +122,7 @@ row_reads ks room k ns r l p f =
     ∙ cond-true _ _ _ (eq-eqb _ _ (ap length fs ∙ n)) ∙ cond-false _ _ _ (ne_eqb room 0 (λ e. omega arith))
     ∙ ap (cells_of k ks) fs ∙ cells-read k ks ns p f.knows f.holds
 
-pub rows-read : (ks : List Column) (room k : ℕ) (rows : List (List ℕ)) → 0 < length ks → all_proper ks ≡ true → All (Fit ks) rows → length rows ≤ room
+pub rows-read : (ks : List Column) (room k : ℕ) (rows : List (List ℕ)) → 0 < length ks → all_proper ks ≡ true → AllByRecursion (Fit ks) rows → length rows ≤ room
     → rows_from ks room k (lines (flat_map (row_text ks) rows)) ≡ record { rows = rows; end = None }
 rows-read ks room k [] l p h few = refl
 rows-read ks room k (r ∷ rs) l p (f, h) few =
@@ -137,7 +137,7 @@ rows-read ks room k (r ∷ rs) l p (f, h) few =
 abbrev pub ReadsBack : Sheet → List (List ℕ) → Type 0
 ReadsBack sh rows = (room : ℕ) → length rows ≤ room → reading sh room (text_of sh rows) ≡ record { rows = rows; end = None }
 
-pub text-reads : (sh : Sheet) (rows : List (List ℕ)) → Made sh → All (Fit sh.columns) rows → length rows ≤ sh.most → ReadsBack sh rows
+pub text-reads : (sh : Sheet) (rows : List (List ℕ)) → Made sh → AllByRecursion (Fit sh.columns) rows → length rows ≤ sh.most → ReadsBack sh rows
 text-reads sh rows m h few room fits =
     let rest = flat_map (row_text sh.columns) rows in
     let t = cut lf rest in

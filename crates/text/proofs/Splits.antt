@@ -1,6 +1,6 @@
 -- Texts cut at a byte, and put together again.
 use Rattle.std.proofs.Common.{◌≡◌, ℕ, ◌+◌, ◌<◌, true, false, cond, eqb, ◌⊎◌, List, [], ◌∷◌, ◌++◌, length, Some, None, count_by, sym, refl, ap, ◌∙◌, inl, inr, arith}
-use Rattle.std.specs.List.{AllByRecursion as All}
+use Rattle.std.specs.List.{AllByRecursion}
 use Rattle.std.proofs.lemmas.List.Sums.{sum_by-cons}
 use Rattle.std.proofs.lemmas.Bool.{cond-true, cond-false, cases_Bool, eq-eqb, eqb-true}
 use Rattle.text.specs.Csv.{cr, on_first, split, join, line_of, only_first}
@@ -9,7 +9,7 @@ use Rattle.text.proofs.Apart.{none≢some, some_same}
 
 -- no byte of s is c
 abbrev pub Free : ℕ → List ℕ → Type 0
-Free c s = All (λ x. eqb x c ≡ false) s
+Free c s = AllByRecursion (λ x. eqb x c ≡ false) s
 
 -- ── A text has a first stretch ──
 pub record Cut (c : ℕ) (s : List ℕ) : Type 0 where
@@ -91,7 +91,7 @@ join-split c (x ∷ xs) = by (cut c xs) (join-split c xs) (cases_Bool (eqb x c))
     by t h (inr e) =
         ap (join c) (split_on c x xs e ∙ ap (on_first x) t.is) ∙ join_first c x t.part t.others ∙ ap (λ l. x ∷ l) (sym (ap (join c) t.is) ∙ h)
 
-pub split-join : (c : ℕ) (ps : List (List ℕ)) → All (Free c) ps → 0 < length ps → split c (join c ps) ≡ ps
+pub split-join : (c : ℕ) (ps : List (List ℕ)) → AllByRecursion (Free c) ps → 0 < length ps → split c (join c ps) ≡ ps
 split-join c [] h l = absurd (omega arith)
 split-join c (p ∷ []) h l = split-free c p h.0
 split-join c (p ∷ q ∷ ps) h l = split-cut c p (join c (q ∷ ps)) h.0 ∙ ap (λ t. p ∷ t) (split-join c (q ∷ ps) h.1 (omega arith))

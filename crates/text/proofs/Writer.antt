@@ -1,6 +1,6 @@
 -- Loops that measure rows and write their text, one row after the other.
 use Rattle.std.proofs.Common.{◌≡◌, ℕ, ◌+◌, ◌<◌, ◌≤◌, Bool, true, false, cond, ◌&&◌, ltb, List, [], ◌∷◌, ◌++◌, map, length, get_or, take, drop, Ok, Err, sym, refl, ap, ◌∙◌, subst, append_assoc, append-nil, arith, length-append}
-use Rattle.std.specs.List.{flat_map, AllByRecursion as All}
+use Rattle.std.specs.List.{flat_map, AllByRecursion}
 use Rattle.std.proofs.ByRecursion.{All-map, All-push}
 use Rattle.std.proofs.lemmas.List.{map-append, map_more, take_more, take_all, take-append-drop, drop_more, flat_map_more, length-map, length-take-le}
 use Rattle.std.proofs.lemmas.Bool.{cond-true, cond-false, and_from, and_left, and_right, lt-ltb, le-ltb}
@@ -22,7 +22,7 @@ known-append sh (x ∷ xs) ys = ap (λ b. all_known sh.columns x && b) (known-ap
     assoc true b c = refl
     assoc false b c = refl
 
-known-fit : (sh : Sheet) (rows : List (List ℕ)) → All (Fit sh.columns) rows → rows_known sh rows ≡ true
+known-fit : (sh : Sheet) (rows : List (List ℕ)) → AllByRecursion (Fit sh.columns) rows → rows_known sh rows ≡ true
 known-fit sh [] h = refl
 known-fit sh (r ∷ rs) (f, h) = and_from _ _ f.knows (known-fit sh rs h)
 
@@ -40,7 +40,7 @@ module _ {X : Type 0} (sh : Sheet) (cells : X → List ℕ) (rows : List X) wher
   Front i = text_of sh (map cells (take i rows))
 
   abbrev pub Fits : List X → Type 0
-  Fits xs = All (λ x. Fit sh.columns (cells x)) xs
+  Fits xs = AllByRecursion (λ x. Fit sh.columns (cells x)) xs
 
   pub front-none : length (Front 0) ≡ length sh.header + 2
   front-none = omega (arith, length-append (ended sh.header) [], length-append sh.header (cr ∷ lf ∷ []))

@@ -1,6 +1,6 @@
 // Whole files, read and written for any kind of row.
 ghost use Rattle.std.specs.Prelude.{◌≡◌, ◌≤◌, map, length, take, IfOk, OnOk};
-ghost use Rattle.std.specs.List.{AllByRecursion as All};
+ghost use Rattle.std.specs.List.{AllByRecursion};
 ghost use Rattle.std.specs.Str.{bytes_eq};
 ghost use Rattle.text.specs.Faults.{answered};
 ghost use Rattle.text.specs.Reading.{reading, answer_of, filled};
@@ -62,7 +62,7 @@ pub fn read_rows<T: Row>(text: &[u8], rows: &mut [T]) -> Result<usize, TextFault
 fn measure<T: Row>(rows: &[T]) -> Result<usize, TextFault>
     requires { length rows.now ≤ T.Row.sheet.most }
     ensures value { answered result ≡ measured T.Row.sheet (map T.Row.cells rows.now) }
-    ensures fit { OnOk result (All (λ x. Fit T.Row.sheet.columns (T.Row.cells x)) rows.now) }
+    ensures fit { OnOk result (AllByRecursion (λ x. Fit T.Row.sheet.columns (T.Row.cells x)) rows.now) }
 {
     let mut total = T::header().len() + 2;
     for row in rows {

@@ -1,12 +1,13 @@
 // Numbers, letters and bytes written into a text.
-ghost use Rattle.std.specs.Prelude.{◌≡◌, ◌+◌, ◌≤◌, [], ◌∷◌, ◌++◌, length, decimal};
+ghost use Rattle.std.specs.Prelude.{◌≡◌, ◌+◌, ◌^◌, ◌<◌, ◌≤◌, [], ◌∷◌, ◌++◌, length, decimal};
 ghost use Rattle.text.specs.Sheets.{ended};
 ghost use Rattle.text.specs.Writing.{placed};
 
 // How many digits a number is written with.
-pub(crate) fn digits(n: u64) -> usize
+pub fn digits(n: u64) -> usize
     ensures value { result ≡ length (decimal n) }
     ensures few { result ≤ 20 }
+    ensures short { n < 2 ^ 32 → result ≤ 10 }
 {
     let mut rest = n;
     let mut count = 1;
@@ -18,7 +19,7 @@ pub(crate) fn digits(n: u64) -> usize
 }
 
 // Writes a line and its end over the front of the text, and answers where it ended.
-pub(crate) fn put_line(out: &mut [u8], line: &[u8]) -> usize
+pub fn put_line(out: &mut [u8], line: &[u8]) -> usize
     requires { length line.now + 2 ≤ length out.old }
     ensures end { result ≡ length line.now + 2 }
     ensures bytes { out.new ≡ placed out.old 0 (ended line.now) }
@@ -29,7 +30,7 @@ pub(crate) fn put_line(out: &mut [u8], line: &[u8]) -> usize
 }
 
 // Each of these writes from `at` on and answers where it ended. The other bytes stay.
-pub(crate) fn put_number(out: &mut [u8], at: usize, n: u64) -> usize
+pub fn put_number(out: &mut [u8], at: usize, n: u64) -> usize
     requires { at + length (decimal n) ≤ length out.old }
     ensures end { result ≡ at + length (decimal n) }
     ensures bytes { out.new ≡ placed out.old at (decimal n) }
@@ -44,7 +45,7 @@ pub(crate) fn put_number(out: &mut [u8], at: usize, n: u64) -> usize
 }
 
 // A field that stands written already, and the byte behind it.
-pub(crate) fn put_cell(out: &mut [u8], at: usize, field: &[u8], after: u8) -> usize
+pub fn put_cell(out: &mut [u8], at: usize, field: &[u8], after: u8) -> usize
     requires { at + length field.now + 1 ≤ length out.old }
     ensures end { result ≡ at + length field.now + 1 }
     ensures bytes { out.new ≡ placed out.old at (field.now ++ after ∷ []) }
@@ -56,7 +57,7 @@ pub(crate) fn put_cell(out: &mut [u8], at: usize, field: &[u8], after: u8) -> us
 }
 
 // A number, and the byte behind it.
-pub(crate) fn put_number_cell(out: &mut [u8], at: usize, n: u64, after: u8) -> usize
+pub fn put_number_cell(out: &mut [u8], at: usize, n: u64, after: u8) -> usize
     requires { at + length (decimal n) + 1 ≤ length out.old }
     ensures end { result ≡ at + length (decimal n) + 1 }
     ensures bytes { out.new ≡ placed out.old at (decimal n ++ after ∷ []) }
@@ -67,7 +68,7 @@ pub(crate) fn put_number_cell(out: &mut [u8], at: usize, n: u64, after: u8) -> u
 }
 
 // Two bytes: a letter and the byte behind it, or a line's end.
-pub(crate) fn put_pair(out: &mut [u8], at: usize, first: u8, second: u8) -> usize
+pub fn put_pair(out: &mut [u8], at: usize, first: u8, second: u8) -> usize
     requires { at + 2 ≤ length out.old }
     ensures end { result ≡ at + 2 }
     ensures bytes { out.new ≡ placed out.old at (first ∷ second ∷ []) }

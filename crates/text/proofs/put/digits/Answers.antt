@@ -12,4 +12,8 @@ loop-rest-preserved c = (omega arith, omega (arith, length-step c.loop-rest.rest
 pub returns : goal.returns
 returns c =
     let d = ap length (decimal_digit c.loop-rest.rest (omega arith)) in
-    record { value = omega arith; few = omega (arith, length-decimal-le 20 c.args.n (omega arith) (omega arith) (omega arith)) }
+    record {
+      value = omega arith;
+      few = omega (arith, length-decimal-le 20 c.args.n (omega arith) (omega arith) (omega arith));
+      short = λ below. omega (arith, length-decimal-le 10 c.args.n (omega arith) (omega arith) (omega arith));
+    }

@@ -1,8 +1,8 @@
 -- One item more is taken: a docket that stands for a plain one stands for it with the item joined to its list.
-use Rattle.std.proofs.Common.{◌≡◌, ℕ, ◌+◌, ◌≤◌, true, List, [], ◌∷◌, ◌++◌, length, Ok, Err, Result, sym, refl, ap, ◌∙◌, arith, length-append}
+use Rattle.std.proofs.Common.{◌≡◌, ◌+◌, ◌≤◌, true, List, [], ◌∷◌, ◌++◌, length, Ok, refl, ap, ◌∙◌, arith, length-append}
 use Rattle.records.specs.declared.Item.{Item}
 use Rattle.case.specs.declared.checked.CheckedCase.{CheckedCase}
-use Rattle.machines.specs.Machine.{Machine, reached, answer, moved}
+use Rattle.machines.specs.Machine.{Machine, reached}
 use Rattle.machines.proofs.Feeds.{feed-more}
 use Rattle.docket.specs.declared.Docket.{Docket}
 use Rattle.docket.specs.declared.counts.Counts.{Counts}

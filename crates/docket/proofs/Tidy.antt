@@ -1,5 +1,5 @@
 -- Calls that keep their ticket in one slot and hand it in at the end leave the slots as they were.
-use Rattle.std.proofs.Common.{◌≡◌, ℕ, ◌+◌, ◌<◌, Bool, true, false, cond, ◌&&◌, eqb, ltb, ◌⊎◌, List, [], ◌∷◌, length, get_or, set, Some, None, Ok, Err, Option, Result, sym, refl, ap, ◌∙◌, subst, inl, inr, arith, length-set, get_or-set_same, set-set}
+use Rattle.std.proofs.Common.{◌≡◌, ℕ, ◌+◌, ◌<◌, Bool, true, false, cond, eqb, ltb, ◌⊎◌, List, [], ◌∷◌, length, get_or, set, Some, None, Ok, Err, Option, Result, sym, refl, ap, ◌∙◌, subst, inl, inr, arith, length-set, get_or-set_same, set-set}
 use Rattle.std.proofs.lemmas.Bool.{ltb-true, lt-ltb, eqb-true, eq-eqb, and_parts, false≢true}
 use Rattle.records.specs.declared.Item.{Item}
 use Rattle.machines.specs.Machine.{Machine, completes}
@@ -8,7 +8,7 @@ use Rattle.docket.specs.declared.ticket.TicketName.{TicketName}
 use Rattle.docket.specs.Plain.{Plain, empty, Asked, opens, offers, settles, withdraws, Opened, Withdrawn, own, verdict, joined, now_open, now_settled, now_withdrawn, fits, offered}
 use Rattle.docket.specs.declared.calls.Call.{Call}
 use Rattle.docket.specs.declared.calls.Call.TheVariants.{Open, Offer, Settle, Withdraw}
-use Rattle.docket.specs.Slots.{Held, Desk, desk, in_slot, with_ticket, with_none, asked, received, handed_in, next_by, desk_next, worked, keeps_to, hands_in_from, tidy}
+use Rattle.docket.specs.Slots.{Held, Desk, desk, in_slot, with_ticket, with_none, received, handed_in, next_by, desk_next, worked, keeps_to, hands_in_from, tidy}
 use Rattle.docket.proofs.Refilling.{still-empty}
 use Rattle.docket.proofs.Settlings.{in_slot_lem, with_ticket_lem}
 

@@ -1,5 +1,4 @@
 -- Number and place of what a docket refuses. Its own refusals have place 0.
-use Rattle.std.specs.Prelude.{ℕ}
 use Rattle.records.specs.Refusals.{Refusal}
 use Rattle.docket.specs.declared.fault.DocketFault.{DocketFault}
 use Rattle.docket.specs.declared.fault.DocketFault.TheVariants.{StillOpen, NotThisTicket, NoneLeft, ItemRefused}

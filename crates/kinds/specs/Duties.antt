@@ -1,5 +1,5 @@
 -- The duties of runs and certificates, from the agreement of the two and from how few items are taken.
-use Rattle.std.specs.Prelude.{◌≡◌, ℕ, ◌≤◌, true, List, length, Ok}
+use Rattle.std.specs.Prelude.{◌≡◌, ◌≤◌, true, List, length, Ok}
 use Rattle.std.proofs.Math.Logic.{∥∥₁_elim, ∥∥₁_prop}
 use Rattle.std.proofs.Common.{arith}
 use Rattle.records.specs.declared.Item.{Item}

@@ -1,5 +1,5 @@
 -- What converting a piece of evidence does, in either direction.
-use Rattle.std.specs.Prelude.{◌≡◌, ℕ, ◌≤◌, true, List, length, IfOk, Result, MatchResult}
+use Rattle.std.specs.Prelude.{◌≡◌, ◌≤◌, true, List, length, IfOk, Result, MatchResult}
 use Rattle.records.specs.declared.Item.{Item}
 use Rattle.case.specs.declared.checked.CheckedCase.{CheckedCase}
 use Rattle.case.specs.Cases.{records_of, threads}

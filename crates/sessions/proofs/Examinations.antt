@@ -1,16 +1,16 @@
 -- One examination, from what the docket's own calls promise: it is opened, items join it one by one, and it ends.
-use Rattle.std.proofs.Common.{◌≡◌, ℕ, ◌+◌, ◌<◌, ◌≤◌, Bool, true, false, cond, eqb, List, [], ◌∷◌, ◌++◌, length, get_or, take, None, Ok, Err, Result, sym, refl, ap, ◌∙◌, subst, arith, length-take-le, take_all}
+use Rattle.std.proofs.Common.{◌≡◌, ℕ, ◌<◌, Bool, true, false, cond, eqb, List, [], ◌∷◌, ◌++◌, length, get_or, take, None, Ok, Err, Result, sym, refl, ap, ◌∙◌, subst, arith, length-take-le, take_all}
 use Rattle.records.specs.declared.Item.{Item}
 use Rattle.records.specs.Refusals.{Refusal}
 use Rattle.case.specs.declared.checked.CheckedCase.{CheckedCase}
-use Rattle.machines.specs.Machine.{Machine, feed, reached, completes, answer}
-use Rattle.machines.specs.Outcomes.{Outcome, allowed, unfinished, refused, outcome_of, outcome}
-use Rattle.machines.proofs.Examining.{Examining, examining_taken, outcome-refused, outcome-all}
+use Rattle.machines.specs.Machine.{Machine, reached, completes, answer}
+use Rattle.machines.specs.Outcomes.{refused, outcome_of, outcome}
+use Rattle.machines.proofs.Examining.{examining_taken, outcome-refused, outcome-all}
 use Rattle.docket.specs.declared.Docket.{Docket}
 use Rattle.docket.specs.declared.ticket.TicketName.{TicketName}
-use Rattle.docket.specs.Plain.{Plain, Asked, opens, offers, settles, withdraws, Reply, Opened, Taken, Allowed, Unfinished, Withdrawn, Refused, own, verdict, item_reply, now_open, joined, now_settled, now_withdrawn, fits, offered, reply, next}
+use Rattle.docket.specs.Plain.{Plain, opens, offers, settles, withdraws, Reply, Opened, Taken, Withdrawn, Refused, own, verdict, item_reply, now_open, joined, now_settled, now_withdrawn, fits, offered}
 use Rattle.docket.specs.Standing.{Stands, Heeds, admits, state_of}
-use Rattle.sessions.specs.Examinations.{Examines, said, holding, closed, examined_reply, examined_plain}
+use Rattle.sessions.specs.Examinations.{Examines, said, holding, closed}
 
 -- ── Opening: granted, or refused by 41 or 43 ──
 granted : (a b : Bool) (t t' : TicketName) → Opened t ≡ cond a (own 41) (cond b (own 43) (Opened t')) → (a ≡ false) × (b ≡ false)

@@ -1,6 +1,6 @@
 -- One examination from its opening to its end: items offered one by one, and then settled, or withdrawn at the first that is
 -- refused.
-use Rattle.std.specs.Prelude.{◌≡◌, ℕ, ◌+◌, true, false, cond, List, take, Ok, Err, Result, ◌==◌}
+use Rattle.std.specs.Prelude.{◌≡◌, ◌+◌, true, false, cond, List, take, Ok, Err, Result, ◌==◌}
 use Rattle.records.specs.declared.Item.{Item}
 use Rattle.case.specs.declared.checked.CheckedCase.{CheckedCase}
 use Rattle.machines.specs.Machine.{Machine}

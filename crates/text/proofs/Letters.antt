@@ -1,5 +1,5 @@
 -- Letters of the alphabet, and of a column.
-use Rattle.std.proofs.Common.{◌≡◌, ℕ, ◌<◌, true, false, ◌&&◌, eqb, leb, ◌⊎◌, List, [], ◌∷◌, ap, ◌∙◌, ⊎_elim, arith}
+use Rattle.std.proofs.Common.{◌≡◌, ℕ, ◌<◌, true, false, ◌&&◌, eqb, leb, List, [], ◌∷◌, ap, ◌∙◌, ⊎_elim, arith}
 use Rattle.std.specs.Char.{is_ascii_alphabetic}
 use Rattle.std.proofs.lemmas.Bool.{cases_Bool, both_ways, and_parts, or_cases, leb-true, eqb-true, false≢true}
 use Rattle.records.specs.Letters.{among}

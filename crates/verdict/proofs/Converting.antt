@@ -1,5 +1,5 @@
 -- Complete evidence is converted without a refusal, and what it is converted to has a text.
-use Rattle.std.proofs.Common.{◌≡◌, ℕ, ◌+◌, ◌≤◌, Bool, true, false, cond, ◌&&◌, ltb, List, [], ◌∷◌, ◌++◌, map, length, take, drop, Some, None, Option, sym, refl, ap, ◌∙◌, zero-add, arith}
+use Rattle.std.proofs.Common.{◌≡◌, ℕ, ◌+◌, ◌≤◌, true, false, cond, ltb, List, [], ◌∷◌, map, length, take, drop, Some, None, sym, refl, ap, ◌∙◌, arith}
 use lib.ListN.{length-map}
 use lib.Seq.{take-append_seam}
 use Rattle.std.proofs.lemmas.Bool.{le-ltb}
@@ -11,11 +11,11 @@ use Rattle.machines.specs.declared.items.CertificateItem.{CertificateItem}
 use Rattle.machines.specs.declared.items.CertificateItem.TheVariants.{Move, Come}
 use Rattle.machines.specs.declared.items.RunItem.{RunItem}
 use Rattle.machines.specs.declared.items.RunItem.TheVariants.{Perform, Drain}
-use Rattle.machines.specs.Machine.{Machine, completes, refusal_of}
+use Rattle.machines.specs.Machine.{Machine, completes}
 use Rattle.agreement.specs.Convert.{replay}
 use Rattle.agreement.specs.Evidence.{run_items, certificate_items, run_encoded, certificate_encoded}
 use Rattle.agreement.specs.Moments.{by_moments}
-use Rattle.conversions.specs.Faults.{or_else, unfinished, conversion_refusal}
+use Rattle.conversions.specs.Faults.{conversion_refusal}
 use Rattle.conversions.specs.Fronts.{put}
 use Rattle.text.specs.Files.{evidence_sheet, evidence_rows, evidence_text, item_cells}
 use Rattle.text.specs.Reports.{fitting}

@@ -1,6 +1,6 @@
 -- "Allowed" is said exactly of complete evidence for a case in form, and then the model allows the case.
-use Rattle.std.proofs.Common.{◌≡◌, ℕ, Bool, true, false, cond, not, ◌&&◌, List, length, take, is_some, Some, None, Ok, Option, sym, refl, ap, ◌∙◌, subst, arith, take_all}
-use Rattle.std.proofs.lemmas.Bool.{and_parts, false≢true}
+use Rattle.std.proofs.Common.{◌≡◌, ℕ, Bool, true, false, cond, not, ◌&&◌, List, length, take, is_some, Some, None, Ok, Option, sym, refl, ◌∙◌, arith, take_all}
+use Rattle.std.proofs.lemmas.Bool.{and_parts}
 use Rattle.records.specs.declared.Item.{Item}
 use Rattle.records.specs.declared.Record.{Record}
 use Rattle.records.specs.Names.{threads_of}
@@ -14,7 +14,6 @@ use Rattle.machines.proofs.Examining.{examining_taken, none-refused}
 use Rattle.machines.proofs.Feeds.{ends}
 use Rattle.agreement.specs.Agreement.{Agreement}
 use Rattle.verdict.specs.declared.judgement.Judgement.{Judgement}
-use Rattle.verdict.specs.declared.judgement.Judgement.TheVariants.{Allowed, Unfinished, Refused}
 use Rattle.verdict.specs.declared.layer.Layer.{Layer}
 use Rattle.verdict.specs.declared.layer.Layer.TheVariants.{CaseText, EvidenceText, Case, Run, Certificate}
 use Rattle.verdict.specs.Judging.{case_refusal, records_in, evidence_refusal, items_in, is_certificate, ruled, examined_as, refused_by, judged, is_allowed, reads, complete, AllowedExactly}

@@ -1,5 +1,5 @@
 -- The layers in their order, once both texts are read: the form decides, or the examination.
-use Rattle.std.proofs.Common.{◌≡◌, ℕ, ◌-◌, cond, not, List, take, is_some, Some, None, Option, sym, refl, ap, ◌∙◌, subst}
+use Rattle.std.proofs.Common.{◌≡◌, ℕ, ◌-◌, cond, not, List, take, is_some, Some, None, sym, ap, ◌∙◌, subst}
 use native.Mathlib.Nat.{sub-zero}
 use Rattle.records.specs.declared.Item.{Item}
 use Rattle.records.specs.declared.Record.{Record}

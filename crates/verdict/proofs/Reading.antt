@@ -1,5 +1,5 @@
 -- A text that was read, as the reader of the text promises it and as the judge needs it.
-use Rattle.std.proofs.Common.{◌≡◌, ℕ, List, ◌++◌, map, length, take, drop, Some, None, Ok, Err, Option, Result, sym, refl, ap, ◌∙◌, arith, length-append}
+use Rattle.std.proofs.Common.{◌≡◌, ℕ, List, ◌++◌, map, length, take, drop, Some, None, Ok, Err, Option, sym, refl, ap, ◌∙◌, arith, length-append}
 use lib.ListN.{length-map}
 use lib.Seq.{take-append_seam}
 use Rattle.records.specs.Refusals.{Refusal}

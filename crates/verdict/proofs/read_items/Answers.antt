@@ -1,4 +1,4 @@
-use Rattle.text.specs.Files.{evidence_reading, item_of}
+use Rattle.text.specs.Files.{item_of}
 use Rattle.verdict.proofs.Reading.{in_front, ended_badly}
 use Rattle.verdict.proofs.read_items.Goals as goal
 

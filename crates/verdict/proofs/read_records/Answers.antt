@@ -1,4 +1,4 @@
-use Rattle.text.specs.Files.{case_reading, record_of}
+use Rattle.text.specs.Files.{record_of}
 use Rattle.verdict.proofs.Reading.{in_front, ended_badly}
 use Rattle.verdict.proofs.read_records.Goals as goal
 

@@ -1,4 +1,4 @@
-use Rattle.std.proofs.Common.{◌≡◌, ℕ, true, false, cond, List, length, sym, refl, ap, ◌∙◌}
+use Rattle.std.proofs.Common.{◌≡◌, true, false, cond, List, length, sym, ap, ◌∙◌}
 use Rattle.records.specs.declared.Item.{Item}
 use Rattle.records.specs.declared.Record.{Record}
 use Rattle.case.specs.Cases.{records_of}
@@ -8,7 +8,7 @@ use Rattle.text.specs.Reports.{fitting}
 use Rattle.text.specs.Writing.{written}
 use Rattle.verdict.specs.declared.judgement.Judgement.{Judgement}
 use Rattle.verdict.specs.Converting.{other_kind, delivered}
-use Rattle.verdict.specs.Judging.{examined_as, is_allowed, complete}
+use Rattle.verdict.specs.Judging.{examined_as, is_allowed}
 use Rattle.verdict.specs.Rows.{verdict_text}
 use Rattle.verdict.proofs.Exactly.{allowed-examined}
 use Rattle.verdict.proofs.write_examined.Goals as goal

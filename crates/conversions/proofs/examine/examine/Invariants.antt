@@ -1,4 +1,3 @@
-use Rattle.std.proofs.Common.{◌≡◌}
 use Rattle.conversions.proofs.examine.examine.Given as goal
 use Rattle.machines.proofs.Examining.{Examining}
 

@@ -1,4 +1,4 @@
-use Rattle.std.proofs.Common.{◌≡◌, ℕ, ◌+◌, ◌<◌, List, length, Some, sym, refl, ap, ◌∙◌, arith}
+use Rattle.std.proofs.Common.{ℕ, ◌+◌, ◌<◌, List, length, Some, sym, refl, ap, ◌∙◌, arith}
 use Rattle.records.specs.declared.action.Action.{Action}
 use Rattle.case.specs.Cases.{threads}
 use Rattle.machines.specs.Lists.{order_state}

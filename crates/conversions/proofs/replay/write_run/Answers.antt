@@ -1,4 +1,4 @@
-use Rattle.std.proofs.Common.{◌≡◌, ◌+◌, ◌≤◌, length, arith, rules}
+use Rattle.std.proofs.Common.{◌≡◌, length, arith}
 use Rattle.case.specs.Cases.{threads}
 use Rattle.agreement.specs.Evidence.{replayed}
 use Rattle.conversions.proofs.Replaying.{nexts-first, replaying_none, replaying_room, replaying_more, replaying_all, replayed-few}

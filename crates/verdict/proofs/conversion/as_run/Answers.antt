@@ -1,4 +1,4 @@
-use Rattle.std.proofs.Common.{◌≡◌, length, take, sym, ap, ◌∙◌, arith}
+use Rattle.std.proofs.Common.{length, take, ap, ◌∙◌, arith}
 use Rattle.case.specs.Cases.{threads}
 use Rattle.machines.specs.Certificate.{certificate_machine}
 use Rattle.verdict.proofs.Converting.{not_refused, in_front-put}

@@ -18,7 +18,7 @@ deref_mut as_bytes is_char_boundary rotate_left rotate_right copy_within fill_wi
 from_fn from_raw from_residual""".split()
 WORDS = ["overflow-add", "overflow-sub", "overflow-mul", "overflow-cast", "overflow-step", "overflow-neg", "overflow-shl",
          "overflow-shr", "nonzero-div", "nonzero-rem", "slice-bounds", "offset-bounds", "invariant-of", "in-err", "in-ok",
-         "in-default", "type-inv", "then-raw"]
+         "in-default", "type-inv"]
 
 
 def read(path):
@@ -26,7 +26,8 @@ def read(path):
         return f.read()
 
 
-def identifiers(crate):
+def identifiers():
+    """The names of the source that have an underscore, and those of the library that steps are named after."""
     names = set(LIBRARY)
     for folder, dirs, files in os.walk(os.path.join(ROOT, "crates")):
         dirs[:] = [d for d in dirs if d != "out"]
@@ -82,7 +83,7 @@ def turn(path, names):
 
 def main():
     crates = sys.argv[1:] or sorted(os.listdir(os.path.join(ROOT, "crates")))
-    names = identifiers(crates)
+    names = identifiers()
     n = 0
     for crate in crates:
         for folder, dirs, files in os.walk(os.path.join(ROOT, "crates", crate, "proofs")):

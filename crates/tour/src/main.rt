@@ -1,7 +1,7 @@
 // The walkthrough's execution at the docket, and from two files to the verdict.
 //
 // The program walkthrough takes store buffering through the form check, both machines and both conversions, in chapters 1 to
-// 4. This one goes on with chapters 5 and 6.
+// 4. This one goes on with chapters 5 and 6. It reads the case from case.csv in the folder that it is run in.
 #![tactic(auto)]
 
 mod desk;
@@ -10,73 +10,37 @@ mod items;
 
 use case::checked::CheckedCase;
 use records::Record;
-use std::io;
+use std::{fs, io};
+use text::read_case;
 
-const STORE_BUFFERING: [Record; 7] = [
-    Record {
-        thread: 0,
-        letter: 'B',
-        target: 0,
-        value: 0,
-        seen: 0,
-        turn: 1,
-    },
-    Record {
-        thread: 0,
-        letter: 'S',
-        target: 1,
-        value: 0,
-        seen: 0,
-        turn: 2,
-    },
-    Record {
-        thread: 0,
-        letter: 'w',
-        target: 0,
-        value: 1,
-        seen: 0,
-        turn: 0,
-    },
-    Record {
-        thread: 0,
-        letter: 'r',
-        target: 1,
-        value: 0,
-        seen: 513,
-        turn: 0,
-    },
-    Record {
-        thread: 1,
-        letter: 'B',
-        target: 0,
-        value: 0,
-        seen: 0,
-        turn: 3,
-    },
-    Record {
-        thread: 1,
-        letter: 'w',
-        target: 1,
-        value: 1,
-        seen: 0,
-        turn: 0,
-    },
-    Record {
-        thread: 1,
-        letter: 'r',
-        target: 0,
-        value: 0,
-        seen: 512,
-        turn: 0,
-    },
-];
+const BLANK: Record = Record {
+    thread: 0,
+    letter: 'B',
+    target: 0,
+    value: 0,
+    seen: 0,
+    turn: 0,
+};
+
+// The case of a text, if it reads and is in form.
+fn case_of(text: &[u8]) -> Option<CheckedCase> {
+    let mut records = [BLANK; 256];
+    let count = match read_case(text, &mut records) {
+        Ok(count) if count <= 256 => count,
+        _ => return None,
+    };
+    let mut case = CheckedCase::empty();
+    match case.fill(&records[0..count]) {
+        Ok(()) => Some(case),
+        Err(_) => None,
+    }
+}
 
 fn main(rt: HostRuntime) -> io::Result<()> {
-    let mut case = CheckedCase::empty();
-    match case.fill(&STORE_BUFFERING) {
-        Ok(()) => {}
-        Err(_) => return println!(rt; "The records are not in form."),
-    }
+    let text = fs::read(&rt, "case.csv")?;
+    let Some(case) = case_of(text.as_slice()) else {
+        return println!(rt; "case.csv holds no case in form");
+    };
     desk::chapter(&rt, &case)?;
     files::chapter(&rt)
 }

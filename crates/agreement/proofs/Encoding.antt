@@ -12,7 +12,8 @@ use Rattle.machines.specs.Items.{run_item, certificate_item, only_thread, unless
 use Rattle.machines.specs.Machine.{feed}
 use Rattle.machines.specs.Run.{RunState, runs, run_step_of, run_step, fresh_run}
 use Rattle.machines.specs.Certificate.{OrderState, certifies, certificate_step_of, certificate_step, fresh_order}
-use Rattle.agreement.specs.Evidence.{run_items, certificate_items, run_encoded, certificate_encoded}
+use Rattle.machines.specs.Encoded.{run_encoded, certificate_encoded}
+use Rattle.agreement.specs.Evidence.{run_items, certificate_items}
 use Rattle.agreement.specs.Agreement.{Encoding}
 use Rattle.machines.proofs.Feeds.{not_ok, stepped}
 

@@ -16,7 +16,8 @@ use Rattle.machines.specs.Run.{RunState, runs, run_step, fresh_run, spent, run_m
 use Rattle.machines.specs.Certificate.{OrderState, certifies, certificate_step, fresh_order, certificate_machine}
 use Rattle.agreement.specs.Convert.{plan, comings, emitted, replay, sum_over, move_count, reversed, reversed_by}
 use Rattle.agreement.specs.Moments.{Converted, by_moments, pairs}
-use Rattle.agreement.specs.Evidence.{run_items, certificate_items, run_encoded, certificate_encoded, written, replayed}
+use Rattle.machines.specs.Encoded.{run_encoded, certificate_encoded}
+use Rattle.agreement.specs.Evidence.{run_items, certificate_items, written, replayed}
 use Rattle.agreement.specs.Agreement.{Sized, CompleteRun, CompleteCertificate, Agreement, Fits, Few, ToCertificate, ToRun}
 use Rattle.agreement.specs.Agreement.{ByMoments}
 use Rattle.machines.proofs.Feeds.{Ends, ends, from-ends}

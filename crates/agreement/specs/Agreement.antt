@@ -12,7 +12,8 @@ use Rattle.machines.specs.Run.{RunState, fresh_run, run_machine}
 use Rattle.machines.specs.Certificate.{OrderState, certificate_machine}
 use Rattle.agreement.specs.Convert.{emitted, move_count, reversed_by}
 use Rattle.agreement.specs.Moments.{Converted, by_moments, pairs, Told, Saw}
-use Rattle.agreement.specs.Evidence.{run_items, certificate_items, run_encoded, certificate_encoded, written, replayed}
+use Rattle.machines.specs.Encoded.{run_encoded, certificate_encoded}
+use Rattle.agreement.specs.Evidence.{run_items, certificate_items, written, replayed}
 
 -- what is needed of a case in form: at most 256 records of eight threads, at most 64 of each
 pub record Sized (xs : List Record) : Type 0 where

@@ -1,12 +1,10 @@
 -- Evidence as items, and what both conversions make of it.
 use Rattle.std.specs.Prelude.{List, map}
 use Rattle.records.specs.declared.Item.{Item}
-use Rattle.records.specs.Letters.{letter}
 use Rattle.records.specs.Names.{Case}
 use Rattle.machines.specs.declared.items.RunItem.{RunItem}
-use Rattle.machines.specs.declared.items.RunItem.TheVariants.{Perform, Drain}
 use Rattle.machines.specs.declared.items.CertificateItem.{CertificateItem}
-use Rattle.machines.specs.declared.items.CertificateItem.TheVariants.{Move, Come}
+use Rattle.machines.specs.Encoded.{run_encoded, certificate_encoded}
 use Rattle.machines.specs.Items.{run_item, certificate_item, said}
 use Rattle.agreement.specs.Convert.{replay}
 use Rattle.agreement.specs.Moments.{by_moments}
@@ -17,15 +15,6 @@ run_items is = said run_item is
 
 abbrev pub certificate_items : List Item → List CertificateItem
 certificate_items js = said certificate_item js
-
--- ── As items ──
-abbrev pub run_encoded : RunItem → Item
-run_encoded (Perform t) = record { letter = letter "A"; thread = t; place = 0; count = 0 }
-run_encoded (Drain t) = record { letter = letter "D"; thread = t; place = 0; count = 0 }
-
-abbrev pub certificate_encoded : CertificateItem → Item
-certificate_encoded (Move t p c) = record { letter = letter "M"; thread = t; place = p; count = c }
-certificate_encoded (Come t) = record { letter = letter "O"; thread = t; place = 0; count = 0 }
 
 -- ── The conversions ──
 -- the certificate that a run converts to, and the run that a certificate converts to

@@ -9,7 +9,8 @@ use Rattle.machines.specs.declared.items.CertificateItem.{CertificateItem}
 use Rattle.machines.specs.declared.items.CertificateItem.TheVariants.{Move, Come}
 use Rattle.agreement.specs.Convert.{emitted}
 use Rattle.agreement.specs.Moments.{moment}
-use Rattle.agreement.specs.Evidence.{run_items, run_encoded, certificate_encoded, written, replayed}
+use Rattle.machines.specs.Encoded.{run_encoded, certificate_encoded}
+use Rattle.agreement.specs.Evidence.{run_items, written, replayed}
 use Rattle.agreement.specs.Agreement.{CompleteRun, CompleteCertificate}
 
 abbrev pub run : List RunItem → List Item

@@ -12,7 +12,8 @@ use Rattle.machines.specs.Items.{run_item, one}
 use Rattle.machines.specs.Memory.{upd}
 use Rattle.agreement.specs.Convert.{Group, group, holds, joins, each, released, flushed, comings}
 use Rattle.agreement.specs.Convert.{Planner, plan_read, plan_perform, plan_drain, plan}
-use Rattle.agreement.specs.Evidence.{run_items, certificate_encoded}
+use Rattle.machines.specs.Encoded.{certificate_encoded}
+use Rattle.agreement.specs.Evidence.{run_items}
 use Rattle.agreement.proofs.Updates.{on₁, on₂, on₃}
 use Rattle.conversions.specs.Hosts.{width, stay, leaving, younger}
 use Rattle.conversions.specs.Along.{Own, performed, drained, unhosted, comes, performed_next, comes_next}

@@ -25,7 +25,8 @@ use Rattle.machines.proofs.Feeds.{not_ok, Stepped, stepped, Ends, ends}
 use Rattle.machines.proofs.Lefts.{lefts-over}
 use Rattle.machines.proofs.Tables.{table-set}
 use Rattle.agreement.specs.Convert.{again, drain_after, moved_or, coming, replay_from}
-use Rattle.agreement.specs.Evidence.{certificate_items, run_encoded, replayed}
+use Rattle.machines.specs.Encoded.{run_encoded}
+use Rattle.agreement.specs.Evidence.{certificate_items, replayed}
 use Rattle.agreement.proofs.CertificateSteps.{CertificateTaken, c_move, certificate_taken, Came, came}
 use Rattle.agreement.proofs.Theorems.{to_run_lem}
 use Rattle.kinds.specs.Duties.{sized}

@@ -9,7 +9,8 @@ use Rattle.form.specs.Form.{in_form}
 use Rattle.form.proofs.Laws.{lawful}
 use Rattle.agreement.specs.Convert.{Mark, mark, Plan, plan, comings, move_items, all_moves, move_count}
 use Rattle.agreement.specs.Moments.{by_moments}
-use Rattle.agreement.specs.Evidence.{run_items, certificate_items, certificate_encoded, written}
+use Rattle.machines.specs.Encoded.{certificate_encoded}
+use Rattle.agreement.specs.Evidence.{run_items, certificate_items, written}
 use Rattle.agreement.specs.Agreement.{Sized, CompleteRun}
 use Rattle.agreement.proofs.Encoding.{certificate-back}
 use Rattle.agreement.proofs.Theorems.{by_moments_lem}

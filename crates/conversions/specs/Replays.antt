@@ -10,7 +10,7 @@ use Rattle.machines.specs.declared.items.CertificateItem.TheVariants.{Move, Come
 use Rattle.machines.specs.Lists.{head_of}
 use Rattle.machines.specs.Memory.{upd}
 use Rattle.agreement.specs.Convert.{again, drain_after}
-use Rattle.agreement.specs.Evidence.{run_encoded}
+use Rattle.machines.specs.Encoded.{run_encoded}
 
 -- the names of the threads' next actions, as a table of eight has them
 abbrev pub nexts : List ℕ → ℕ → ℕ

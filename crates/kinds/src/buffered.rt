@@ -8,11 +8,14 @@ ghost use Rattle.kinds.specs.Duties.{run_sound, run-full, run_short, certificate
 
 use crate::Evidence;
 use case::checked::CheckedCase;
+use machines::faults::{CertificateFault, RunFault};
 use machines::lists::Certificate;
 use machines::rows::Run;
 use records::Item;
 
 impl Evidence for Run {
+    type Fault = RunFault;
+
     ghost State = { RunState };
 
     ghost state = { λ k m. run_state (threads k) m };
@@ -31,11 +34,8 @@ impl Evidence for Run {
         Run::begin(self, case);
     }
 
-    fn put(&mut self, case: &CheckedCase, item: Item) -> Result<(), u8> {
-        match Run::put(self, case, item) {
-            Ok(()) => Ok(()),
-            Err(fault) => Err(fault.number()),
-        }
+    fn put(&mut self, case: &CheckedCase, item: Item) -> Result<(), RunFault> {
+        Run::put(self, case, item)
     }
 
     fn finished(&self, case: &CheckedCase) -> bool {
@@ -44,6 +44,8 @@ impl Evidence for Run {
 }
 
 impl Evidence for Certificate {
+    type Fault = CertificateFault;
+
     ghost State = { OrderState };
 
     ghost state = { λ k m. order_state (threads k) m };
@@ -62,11 +64,8 @@ impl Evidence for Certificate {
         Certificate::begin(self, case);
     }
 
-    fn put(&mut self, case: &CheckedCase, item: Item) -> Result<(), u8> {
-        match Certificate::put(self, case, item) {
-            Ok(()) => Ok(()),
-            Err(fault) => Err(fault.number()),
-        }
+    fn put(&mut self, case: &CheckedCase, item: Item) -> Result<(), CertificateFault> {
+        Certificate::put(self, case, item)
     }
 
     fn finished(&self, case: &CheckedCase) -> bool {

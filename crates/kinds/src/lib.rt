@@ -14,14 +14,19 @@
 ghost use Rattle.std.specs.Prelude.{◌≡◌, ◌≤◌, true, List, length, Ok, OnErr};
 ghost use Rattle.records.specs.declared.Item.{Item};
 ghost use Rattle.case.specs.declared.checked.CheckedCase.{CheckedCase};
+ghost use Rattle.machines.specs.Faults.{told};
 ghost use Rattle.machines.specs.Machine.{Machine, reached, completes, answer, moved};
 
 pub mod buffered;
 
 use case::checked::CheckedCase;
+use machines::faults::ItemFault;
 use records::Item;
 
 pub trait Evidence {
+    // why an item is refused
+    type Fault: ItemFault;
+
     // the states of the kind's machines
     ghost State: { Type 0 };
 
@@ -38,9 +43,9 @@ pub trait Evidence {
     fn begin(&mut self, case: &CheckedCase)
         ensures fresh { state case.now self.new ≡ (machine case.now).fresh };
 
-    // Takes the item, or answers the number of the refusal and stays exactly as it was.
-    fn put(&mut self, case: &CheckedCase, item: Item) -> Result<(), u8>
-        ensures answer { result ≡ answer ((machine case.now).step (state case.now self.old) item) }
+    // Takes the item, or answers why not and stays exactly as it was.
+    fn put(&mut self, case: &CheckedCase, item: Item) -> Result<(), Self::Fault>
+        ensures answer { told Self.Fault.number result ≡ answer ((machine case.now).step (state case.now self.old) item) }
         ensures after { state case.now self.new ≡ moved (state case.now self.old) ((machine case.now).step (state case.now self.old) item) }
         ensures kept { OnErr result (self.new ≡ self.old) };
 

@@ -2,6 +2,7 @@ pub mod Machine
 pub mod Outcomes
 pub mod Memory
 pub mod Items
+pub mod Encoded
 pub mod Faults
 pub mod Run
 pub mod Rows

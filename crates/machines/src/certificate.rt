@@ -185,16 +185,13 @@ impl Certificate {
         ensures after { order_state (threads case.now) self.new ≡ moved (order_state (threads case.now) self.old) (certificate_step (order_state (threads case.now) self.old) item) }
         ensures kept { OnErr result (self.new ≡ self.old) }
     {
-        match CertificateItem::of(item) {
-            None => Err(CertificateFault::NotOfCertificate),
-            Some(
-                CertificateItem::Move {
-                    thread,
-                    place,
-                    count,
-                },
-            ) => self.move_read(case, thread, place, count),
-            Some(CertificateItem::Come(thread)) => self.come(case, thread),
+        match CertificateItem::try_from(item)? {
+            CertificateItem::Move {
+                thread,
+                place,
+                count,
+            } => self.move_read(case, thread, place, count),
+            CertificateItem::Come(thread) => self.come(case, thread),
         }
     }
 

@@ -1,5 +1,5 @@
 // Why an item is refused, by each machine.
-ghost use Rattle.std.specs.Prelude.{◌≡◌};
+ghost use Rattle.std.specs.Prelude.{◌≡◌, ℕ};
 ghost use Rattle.machines.specs.Faults.{run_number, certificate_number};
 
 #[derive(Clone, Copy, Debug, PartialEq)]
@@ -40,10 +40,18 @@ pub enum CertificateFault {
     SawAnother,
 }
 
-impl RunFault {
-    pub fn number(&self) -> u8
-        ensures { result ≡ run_number self.now }
-    {
+// What a machine gives as its reason: each has a number of its own in the table of refusals.
+pub trait ItemFault: Copy {
+    ghost number: { Self → ℕ };
+
+    fn number(&self) -> u8
+        ensures { result ≡ number self.now };
+}
+
+impl ItemFault for RunFault {
+    ghost number = { run_number };
+
+    fn number(&self) -> u8 {
         match self {
             RunFault::NotOfRun => 20,
             RunFault::NoAction => 21,
@@ -55,10 +63,10 @@ impl RunFault {
     }
 }
 
-impl CertificateFault {
-    pub fn number(&self) -> u8
-        ensures { result ≡ certificate_number self.now }
-    {
+impl ItemFault for CertificateFault {
+    ghost number = { certificate_number };
+
+    fn number(&self) -> u8 {
         match self {
             CertificateFault::NotOfCertificate => 20,
             CertificateFault::MoveInOrder => 31,

@@ -201,10 +201,9 @@ impl Run {
         ensures after { run_state (threads case.now) self.new ≡ moved (run_state (threads case.now) self.old) (run_step (run_state (threads case.now) self.old) item) }
         ensures kept { OnErr result (self.new ≡ self.old) }
     {
-        match RunItem::of(item) {
-            None => Err(RunFault::NotOfRun),
-            Some(RunItem::Perform(thread)) => self.perform(case, thread),
-            Some(RunItem::Drain(thread)) => self.drain(thread),
+        match RunItem::try_from(item)? {
+            RunItem::Perform(thread) => self.perform(case, thread),
+            RunItem::Drain(thread) => self.drain(thread),
         }
     }
 

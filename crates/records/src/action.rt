@@ -76,9 +76,8 @@ impl Action {
         ensures { result ≡ name_of self.now }
     {
         match *self {
-            Action::Read { name, .. } => name,
-            Action::Write { name, .. } => name,
-            Action::Sync { name, .. } => name,
+            Action::Read { name, .. } | Action::Write { name, .. } | Action::Sync { name, .. } =>
+                name,
         }
     }
 }

@@ -13,7 +13,8 @@ use Rattle.machines.specs.declared.items.RunItem.{RunItem}
 use Rattle.machines.specs.declared.items.RunItem.TheVariants.{Perform, Drain}
 use Rattle.machines.specs.Machine.{Machine, completes}
 use Rattle.agreement.specs.Convert.{replay}
-use Rattle.agreement.specs.Evidence.{run_items, certificate_items, run_encoded, certificate_encoded}
+use Rattle.machines.specs.Encoded.{run_encoded, certificate_encoded}
+use Rattle.agreement.specs.Evidence.{run_items, certificate_items}
 use Rattle.agreement.specs.Moments.{by_moments}
 use Rattle.conversions.specs.Faults.{conversion_refusal}
 use Rattle.conversions.specs.Fronts.{put}

@@ -2,7 +2,7 @@ use Rattle.std.proofs.Common.{◌≡◌, ℕ, ◌+◌, List, [], ◌∷◌, get_
 use Rattle.records.specs.declared.Item.{Item}
 use Rattle.records.specs.declared.action.Action.TheVariants.{Write}
 use Rattle.machines.specs.declared.items.RunItem.TheVariants.{Drain}
-use Rattle.agreement.specs.Evidence.{run_encoded}
+use Rattle.machines.specs.Encoded.{run_encoded}
 use Rattle.conversions.specs.Fronts.{put}
 use Rattle.conversions.specs.Replays.{missing, performed}
 use Rattle.conversions.proofs.Fronts.{Leads, leads-room, leads-more, leads-all}

@@ -7,9 +7,14 @@
 pub mod options;
 pub mod words;
 
-use options::Options;
+use anyhow::anyhow;
+use options::{Options, OptionsError};
+use std::io::Write;
 use std::rt::Files;
 use std::{fs, io};
+use text::TextFault;
+use verdict::judge;
+use words::explain;
 
 // The two texts that a program is run on.
 #[derive(Drop)]
@@ -19,20 +24,54 @@ pub struct Texts {
 }
 
 // A file that cannot be read counts as empty; unless it is to be quiet, a line on standard error says so.
-fn read_or_empty(rt: &HostRuntime, path: &str, quiet: bool) -> io::Result<Vec<u8>> {
-    match fs::read(rt, path) {
-        Ok(bytes) => Ok(bytes),
-        Err(_) => {
-            if !quiet {
-                eprintln!(rt; "{path} cannot be read and counts as empty")?;
-            }
-            Ok(Vec::new(rt.alloc()))
+pub fn read_or_empty(rt: &HostRuntime, path: &str, quiet: bool) -> io::Result<Vec<u8>> {
+    let Ok(bytes) = fs::read(rt, path) else {
+        if !quiet {
+            eprintln!(rt; "{path} cannot be read and counts as empty")?;
         }
-    }
+        return Ok(Vec::new(rt.alloc()));
+    };
+    Ok(bytes)
 }
 
 pub fn read_texts(rt: &HostRuntime, options: &Options) -> io::Result<Texts> {
     let case = read_or_empty(rt, options.case.as_str(), options.quiet)?;
     let evidence = read_or_empty(rt, options.evidence.as_str(), options.quiet)?;
     Ok(Texts { case, evidence })
+}
+
+// A program of a name, with its help: writes to standard output what `write` makes of the two texts, which is no longer
+// than `room`, and says the verdict on them in words.
+pub fn run<W: Fn(&[u8], &[u8], &mut [u8]) -> Result<usize, TextFault>>(
+    rt: &HostRuntime,
+    name: &str,
+    help: &str,
+    room: usize,
+    write: W,
+) -> anyhow::Result<()>
+    requires { W.IsAlwaysCallable write }
+{
+    let options = match Options::read(rt) {
+        Ok(options) => options,
+        Err(OptionsError::Io(error)) => return Err(error.into()),
+        Err(OptionsError::Memory(error)) => return Err(error.into()),
+        Err(misuse) => {
+            eprintln!(rt; "{name}: {misuse}")?;
+            return Err(anyhow!("wrong arguments"));
+        }
+    };
+    if options.help {
+        rt.println(help)?;
+        return Ok(());
+    }
+    let Texts { case, evidence } = read_texts(rt, &options)?;
+    let mut bytes = vec![in rt.alloc(); 0u8; room]?;
+    match write(case.as_slice(), evidence.as_slice(), &mut bytes) {
+        Ok(count) if count <= bytes.len() => rt.stdout().write_all(&bytes[0..count])?,
+        _ => return Err(anyhow!("what is to be written is longer than {room} bytes")),
+    }
+    if !options.quiet {
+        explain(rt, &judge(case.as_slice(), evidence.as_slice()), &options)?;
+    }
+    Ok(())
 }

@@ -1,12 +1,8 @@
 // The converter: reads a case and its evidence, and writes evidence of the other kind.
 #![tactic(auto)]
 
-use anyhow::anyhow;
-use console::options::{Options, complain, read_options};
-use console::words::explain;
-use console::{Texts, read_texts};
-use std::io::Write;
-use verdict::{judge, write_converted};
+use console::run;
+use verdict::write_converted;
 
 const HELP: &str = "usage: convert [--quiet] [CASE EVIDENCE]
 
@@ -18,33 +14,8 @@ A file that cannot be read counts as empty. A line in plain words about the verd
 it off. docs/CONVERSION.md has the rules.";
 
 // The longest text of evidence has 65,305 bytes.
-const MOST: usize = 65_536;
-
-fn run(rt: &HostRuntime, options: &Options) -> anyhow::Result<()> {
-    let Texts { case, evidence } = read_texts(rt, options)?;
-    let mut bytes = vec![in rt.alloc(); 0u8; MOST]?;
-    match write_converted(case.as_slice(), evidence.as_slice(), &mut bytes) {
-        Ok(count) if count <= bytes.len() => rt.stdout().write_all(&bytes[0..count])?,
-        _ => return Err(anyhow!("what is to be written is longer than 65536 bytes")),
-    }
-    if !options.quiet {
-        explain(rt, &judge(case.as_slice(), evidence.as_slice()), options)?;
-    }
-    Ok(())
-}
+const ROOM: usize = 65_536;
 
 fn main(rt: HostRuntime) -> anyhow::Result<()> {
-    match read_options(&rt)? {
-        Err(misuse) => {
-            complain(&rt, "convert", &misuse)?;
-            Err(anyhow!("wrong arguments"))
-        }
-        Ok(options) => {
-            if options.help {
-                rt.println(HELP)?;
-                return Ok(());
-            }
-            run(&rt, &options)
-        }
-    }
+    run(&rt, "convert", HELP, ROOM, write_converted)
 }

@@ -13,10 +13,9 @@ use Rattle.machines.specs.Run.{run_machine}
 use Rattle.machines.proofs.Examining.{examining_taken, none-refused}
 use Rattle.machines.proofs.Feeds.{ends}
 use Rattle.agreement.specs.Agreement.{Agreement}
-use Rattle.verdict.specs.declared.judgement.Judgement.{Judgement}
 use Rattle.verdict.specs.declared.layer.Layer.{Layer}
 use Rattle.verdict.specs.declared.layer.Layer.TheVariants.{CaseText, EvidenceText, Case, Run, Certificate}
-use Rattle.verdict.specs.Judging.{case_refusal, records_in, evidence_refusal, items_in, is_certificate, ruled, examined_as, refused_by, judged, is_allowed, reads, complete, AllowedExactly}
+use Rattle.verdict.specs.Judging.{Judged, case_refusal, records_in, evidence_refusal, items_in, is_certificate, ruled, examined_as, refused_by, judged, is_allowed, reads, complete, AllowedExactly}
 
 -- complete evidence has no refusal
 pub complete-none : {S : Type 0} (m : Machine S) (is : List Item) → completes m is ≡ true → None ≡ refusal_of m is
@@ -45,11 +44,11 @@ allowed-examined rs is =
     ]
 
 -- each layer that does not refuse lets the next one decide
-by_layer : (l : Layer) (q : Option Refusal) (j : Judgement) (b : Bool) → is_allowed j ≡ b → is_allowed (refused_by l q j) ≡ (reads q && b)
+by_layer : (l : Layer) (q : Option Refusal) (j : Judged) (b : Bool) → is_allowed j ≡ b → is_allowed (refused_by l q j) ≡ (reads q && b)
 by_layer l None j b e = e
 by_layer l (Some r) j b e = refl
 
-by_form : (q : Option Refusal) (j : Judgement) (b : Bool) → is_allowed j ≡ b → is_allowed (refused_by Case q j) ≡ (not (is_some q) && b)
+by_form : (q : Option Refusal) (j : Judged) (b : Bool) → is_allowed j ≡ b → is_allowed (refused_by Case q j) ≡ (not (is_some q) && b)
 by_form None j b e = e
 by_form (Some r) j b e = refl
 

@@ -1,5 +1,5 @@
 -- The layers in their order, once both texts are read: the form decides, or the examination.
-use Rattle.std.proofs.Common.{◌≡◌, ℕ, ◌-◌, cond, not, List, take, is_some, Some, None, sym, ap, ◌∙◌, subst}
+use Rattle.std.proofs.Common.{◌≡◌, ℕ, ◌-◌, false, cond, not, List, take, is_some, Some, None, sym, ap, ◌∙◌, subst}
 use native.Mathlib.Nat.{sub-zero}
 use Rattle.records.specs.declared.Item.{Item}
 use Rattle.records.specs.declared.Record.{Record}
@@ -8,11 +8,8 @@ use Rattle.case.specs.declared.checked.CheckedCase.{CheckedCase}
 use Rattle.case.specs.Cases.{filled, records_of}
 use Rattle.form.specs.Form.{form_refusal}
 use Rattle.text.specs.Files.{evidence_text, case_reading, record_of, evidence_reading, item_of}
-use Rattle.verdict.specs.declared.fault.Fault.{Fault}
-use Rattle.verdict.specs.declared.judgement.Judgement.TheVariants.{Refused}
-use Rattle.verdict.specs.declared.layer.Layer.TheVariants.{Case}
-use Rattle.verdict.specs.Faults.{fault_at}
-use Rattle.verdict.specs.Judging.{records_in, items_in, examined_as, judged, is_allowed}
+use Rattle.verdict.specs.declared.layer.Layer.TheVariants.{CaseText, EvidenceText, Case}
+use Rattle.verdict.specs.Judging.{Judged, Refused, case_refusal, evidence_refusal, records_in, items_in, examined_as, judged, is_allowed}
 use Rattle.verdict.specs.Converting.{other_kind, delivered, converted}
 use Rattle.verdict.specs.Rows.{verdict_text}
 use Rattle.verdict.specs.Reads.{InFront, Loaded}
@@ -25,7 +22,7 @@ module _ (ct et : List ℕ) (n m : ℕ) (rs : List Record) (is : List Item) (cas
   records-read : take (n - 0) rs ≡ records_in ct
   records-read = ap (λ k. take k rs) (sub-zero n) ∙ cases.rows
 
-  pub form_decides : (q : Refusal) → Some q ≡ form_refusal (take (n - 0) rs) → Refused (fault_at Case q) ≡ judged ct et
+  pub form_decides : (q : Refusal) → Some q ≡ form_refusal (take (n - 0) rs) → Refused Case q ≡ judged ct et
   form_decides q e = let found : form_refusal (records_in ct) ≡ Some q = sym (e ∙ ap form_refusal records-read) in rw (cases.ends, evidence.ends, found)
 
   pub all_loaded : (k : CheckedCase) (old : List Record) → None ≡ form_refusal (take (n - 0) rs) → records_of k ≡ filled (take (n - 0) rs) old → Loaded ct et k is m
@@ -38,6 +35,13 @@ module _ (ct et : List ℕ) (n m : ℕ) (rs : List Record) (is : List Item) (cas
         items = evidence.rows;
         few = evidence.few;
       }
+
+-- a text that does not read decides
+pub case_decides : (ct et : List ℕ) (q : Refusal) → case_refusal ct ≡ Some q → Refused CaseText q ≡ judged ct et
+case_decides ct et q e = rw e refl
+
+pub evidence_decides : (ct et : List ℕ) (q : Refusal) → case_refusal ct ≡ None → evidence_refusal et ≡ Some q → Refused EvidenceText q ≡ judged ct et
+evidence_decides ct et q f e = rw (f, e) refl
 
 -- then the examination decides
 module _ (ct et : List ℕ) (k : CheckedCase) (is : List Item) (n : ℕ) (so : Loaded ct et k is n) where
@@ -54,5 +58,7 @@ module _ (ct et : List ℕ) (k : CheckedCase) (is : List Item) (n : ℕ) (so : L
       ∙ ap (λ ys. cond (is_allowed (judged ct et)) (evidence_text (other_kind (records_in ct) ys)) (verdict_text (judged ct et))) items_loaded
 
 -- a refusal of the layers below is what is written
-pub refusal-delivers : (ct et : List ℕ) (f : Fault) → Refused f ≡ judged ct et → verdict_text (Refused f) ≡ converted ct et
-refusal-delivers ct et f e = ap (λ j. cond (is_allowed j) (evidence_text (other_kind (records_in ct) (items_in et))) (verdict_text j)) e
+pub refusal-delivers : (ct et : List ℕ) (j : Judged) → is_allowed j ≡ false → j ≡ judged ct et → verdict_text j ≡ converted ct et
+refusal-delivers ct et j no e =
+    sym (ap (λ b. cond b (evidence_text (other_kind (records_in ct) (items_in et))) (verdict_text j)) no)
+    ∙ ap (λ i. cond (is_allowed i) (evidence_text (other_kind (records_in ct) (items_in et))) (verdict_text i)) e

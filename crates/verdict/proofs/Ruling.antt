@@ -1,4 +1,4 @@
--- What an examination replied, as a judgement.
+-- What an examination replied, as what is said of two texts.
 use Rattle.std.proofs.Common.{◌≡◌, List, refl, ap, ◌∙◌}
 use Rattle.records.specs.declared.Item.{Item}
 use Rattle.case.specs.declared.checked.CheckedCase.{CheckedCase}
@@ -17,9 +17,10 @@ ruled_as_said l (allowed n) = refl
 ruled_as_said l (unfinished n) = refl
 ruled_as_said l (refused q) = refl
 
-pub ruled-examined : {K S : Type 0} (machine : CheckedCase → Machine S) (state : CheckedCase → K → S) (d d' : Docket K) (k : CheckedCase) (items : List Item) (l : Layer) (a : Reply) → d.case ≡ k → Stands machine state d empty →
+-- a new docket replies what the items come to
+pub new-replies : {K S : Type 0} (machine : CheckedCase → Machine S) (state : CheckedCase → K → S) (d d' : Docket K) (k : CheckedCase) (items : List Item) (a : Reply) → d.case ≡ k → Stands machine state d empty →
     Examines machine state d items a d' →
-    ruling l a ≡ ruled l (outcome (machine k) items)
-ruled-examined machine state d d' k items l a e new does =
+    a ≡ said (outcome (machine k) items)
+new-replies machine state d d' k items a e new does =
     let told : a ≡ said (outcome (machine d.case) items) = does.answers empty new in
-    ap (ruling l) told ∙ ruled_as_said l (outcome (machine d.case) items) ∙ ap (λ z. ruled l (outcome (machine z) items)) e
+    told ∙ ap (λ z. said (outcome (machine z) items)) e

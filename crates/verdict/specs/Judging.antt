@@ -11,11 +11,14 @@ use Rattle.machines.specs.Machine.{completes}
 use Rattle.machines.specs.Outcomes.{Outcome, allowed, unfinished, refused, outcome}
 use Rattle.machines.specs.Run.{run_machine}
 use Rattle.text.specs.Files.{case_reading, record_of, evidence_reading, item_of}
-use Rattle.verdict.specs.declared.judgement.Judgement.{Judgement}
-use Rattle.verdict.specs.declared.judgement.Judgement.TheVariants.{Allowed, Unfinished, Refused}
 use Rattle.verdict.specs.declared.layer.Layer.{Layer}
 use Rattle.verdict.specs.declared.layer.Layer.TheVariants.{CaseText, EvidenceText, Case, Run, Certificate}
-use Rattle.verdict.specs.Faults.{fault_at}
+
+-- what is said of two texts: by which layer, with the number of items, or with the number and the place of a refusal
+pub data Judged : Type 0 where
+  Allowed : Layer → ℕ → Judged
+  Unfinished : Layer → ℕ → Judged
+  Refused : Layer → Refusal → Judged
 
 -- ── What the texts hold ──
 abbrev pub case_refusal : List ℕ → Option Refusal
@@ -36,31 +39,31 @@ abbrev pub is_certificate : List Item → Bool
 is_certificate [] = false
 is_certificate (i ∷ is) = i.letter == (letter "M") || i.letter == (letter "O")
 
-abbrev pub ruled : Layer → Outcome → Judgement
+abbrev pub ruled : Layer → Outcome → Judged
 ruled l (allowed n) = Allowed l n
 ruled l (unfinished n) = Unfinished l n
-ruled l (refused q) = Refused (fault_at l q)
+ruled l (refused q) = Refused l q
 
-abbrev pub examined_as : List Record → List Item → Judgement
+abbrev pub examined_as : List Record → List Item → Judged
 examined_as rs is =
     cond (is_certificate is) (ruled Certificate (outcome (certificate_machine (threads_of rs)) is)) (ruled Run (outcome (run_machine (threads_of rs)) is))
 
 -- ── The layers, in order ──
-abbrev pub refused_by : Layer → Option Refusal → Judgement → Judgement
+abbrev pub refused_by : Layer → Option Refusal → Judged → Judged
 refused_by l None next = next
-refused_by l (Some q) next = Refused (fault_at l q)
+refused_by l (Some q) next = Refused l q
 
-abbrev pub judged : List ℕ → List ℕ → Judgement
+abbrev pub judged : List ℕ → List ℕ → Judged
 judged ct et =
     refused_by CaseText (case_refusal ct)
     (refused_by EvidenceText (evidence_refusal et)
     (refused_by Case (form_refusal (records_in ct)) (examined_as (records_in ct) (items_in et))))
 
 -- ── The law above it ──
-abbrev pub is_allowed : Judgement → Bool
+abbrev pub is_allowed : Judged → Bool
 is_allowed (Allowed l n) = true
 is_allowed (Unfinished l n) = false
-is_allowed (Refused f) = false
+is_allowed (Refused l q) = false
 
 abbrev pub reads : Option Refusal → Bool
 reads None = true

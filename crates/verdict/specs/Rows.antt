@@ -1,18 +1,11 @@
 -- The verdict as text: a header and one row.
-use Rattle.std.specs.Prelude.{ℕ, List, ◌∷◌, ◌++◌, codes}
-use Rattle.text.specs.Csv.{comma}
-use Rattle.text.specs.Reports.{report_text}
-use Rattle.verdict.specs.declared.judgement.Judgement.{Judgement}
-use Rattle.verdict.specs.declared.judgement.Judgement.TheVariants.{Allowed, Unfinished, Refused}
+use Rattle.std.specs.Prelude.{ℕ, List, [], ◌∷◌, ◌++◌, codes, decimal}
+use Rattle.text.specs.Csv.{comma, join}
+use Rattle.text.specs.Sheets.{ended}
+use Rattle.verdict.specs.declared.judgement.VerdictRow.{VerdictRow}
 use Rattle.verdict.specs.declared.layer.Layer.{Layer}
-use Rattle.verdict.specs.declared.layer.Layer.TheVariants.{CaseText, EvidenceText, Case, Run, Certificate}
-
-abbrev pub layer_name : Layer → List ℕ
-layer_name CaseText = codes "case-text"
-layer_name EvidenceText = codes "evidence-text"
-layer_name Case = codes "case"
-layer_name Run = codes "run"
-layer_name Certificate = codes "certificate"
+use Rattle.verdict.specs.Judging.{Judged, Allowed, Unfinished, Refused}
+use Rattle.verdict.specs.Layers.{layer_name}
 
 -- verdict, layer, refusal and place, by case
 pub record Row : Type 0 where
@@ -21,19 +14,17 @@ pub record Row : Type 0 where
   pub refusal : ℕ
   pub place : ℕ
 
-abbrev pub told : Judgement → Row
+abbrev pub told : Judged → Row
 told (Allowed l n) = record { verdict = codes "allowed"; layer = l; refusal = 0; place = n }
 told (Unfinished l n) = record { verdict = codes "unfinished"; layer = l; refusal = 0; place = n }
-told (Refused f) = record { verdict = codes "refused"; layer = f.layer; refusal = f.number; place = f.place }
+told (Refused l q) = record { verdict = codes "refused"; layer = l; refusal = q.number; place = q.place }
 
-abbrev pub fields_of : List ℕ → Layer → List ℕ
-fields_of word l = word ++ comma ∷ layer_name l
+-- the row of the code
+abbrev pub row_of : VerdictRow → Row
+row_of r = record { verdict = r.verdict.now; layer = r.layer; refusal = r.refusal; place = r.place }
 
-abbrev pub front_of : Judgement → List ℕ
-front_of j = fields_of (told j).verdict (told j).layer
+abbrev pub fields_of : Row → List (List ℕ)
+fields_of r = r.verdict ∷ layer_name r.layer ∷ decimal r.refusal ∷ decimal r.place ∷ []
 
-abbrev pub numbers_of : Judgement → ℕ × ℕ
-numbers_of j = ((told j).refusal, (told j).place)
-
-abbrev pub verdict_text : Judgement → List ℕ
-verdict_text j = report_text (codes "verdict,layer,refusal,place") (front_of j) (told j).refusal (told j).place
+abbrev pub verdict_text : Judged → List ℕ
+verdict_text j = ended (codes "verdict,layer,refusal,place") ++ ended (join comma (fields_of (told j)))

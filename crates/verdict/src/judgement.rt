@@ -1,87 +1,68 @@
 // What the judge says, and the row that it is written as.
-ghost use Rattle.std.specs.Prelude.{◌≡◌, codes};
+ghost use Rattle.std.specs.Prelude.{◌≡◌, Ok};
 ghost use Rattle.verdict.specs.Judging.{is_allowed};
-ghost use Rattle.verdict.specs.Rows.{fields_of, front_of, numbers_of};
+ghost use Rattle.verdict.specs.Rulings.{said};
+ghost use Rattle.verdict.specs.Rows.{told, row_of};
 
 use crate::fault::Fault;
-use crate::layer::Layer;
+use crate::layer::{Kind, Layer};
+use docket::Verdict;
 
+// The docket's verdict on evidence of a kind.
 #[derive(Clone, Copy, Debug, PartialEq)]
-pub enum Judgement {
-    // the items, so many, are complete evidence of the layer's kind
-    Allowed { layer: Layer, items: usize },
-    // they are taken, and are not complete
-    Unfinished { layer: Layer, items: usize },
-    Refused(Fault),
+pub struct Ruling {
+    pub kind: Kind,
+    pub verdict: Verdict,
 }
 
-impl Judgement {
+impl Ruling {
     pub fn is_allowed(&self) -> bool
-        ensures value { result ≡ is_allowed self.now }
+        ensures value { result ≡ is_allowed (said (Ok self.now)) }
     {
-        match self {
-            Judgement::Allowed { .. } => true,
-            Judgement::Unfinished { .. } | Judgement::Refused(_) => false,
-        }
+        matches!(self.verdict, Verdict::Allowed(_))
     }
 
-    // The first two fields of the row.
-    pub fn front(&self) -> &'static [u8]
-        ensures value { result.now ≡ front_of self.now }
+    fn row(&self) -> VerdictRow
+        ensures value { row_of result ≡ told (said (Ok self.now)) }
     {
-        match *self {
-            Judgement::Allowed { layer, .. } => allowed_by(layer),
-            Judgement::Unfinished { layer, .. } => unfinished_by(layer),
-            Judgement::Refused(Fault { layer, .. }) => refused_by(layer),
-        }
-    }
-
-    // The last two: the refusal and its place, or 0 and the number of items.
-    pub fn numbers(&self) -> (u64, u64)
-        ensures value { result ≡ numbers_of self.now }
-    {
-        match *self {
-            Judgement::Allowed { items, .. } | Judgement::Unfinished { items, .. } => (
-                0,
-                items as u64,
-            ),
-            Judgement::Refused(fault) => (u64::from(fault.number), fault.place as u64),
+        let (verdict, items): (&'static [u8], u16) = match self.verdict {
+            Verdict::Allowed(items) => (b"allowed", items),
+            Verdict::Unfinished(items) => (b"unfinished", items),
+        };
+        VerdictRow {
+            verdict,
+            layer: Layer::from(self.kind),
+            refusal: 0,
+            place: usize::from(items),
         }
     }
 }
 
-fn allowed_by(layer: Layer) -> &'static [u8]
-    ensures value { result.now ≡ fields_of (codes "allowed") layer }
-{
-    match layer {
-        Layer::CaseText => b"allowed,case-text",
-        Layer::EvidenceText => b"allowed,evidence-text",
-        Layer::Case => b"allowed,case",
-        Layer::Run => b"allowed,run",
-        Layer::Certificate => b"allowed,certificate",
-    }
+// A ruling on the evidence, or the refusal of the first layer that refuses.
+pub type Judgement = Result<Ruling, Fault>;
+
+// Verdict, layer, refusal and place.
+#[derive(Clone, Copy)]
+pub struct VerdictRow {
+    pub verdict: &'static [u8],
+    pub layer: Layer,
+    pub refusal: u8,
+    pub place: usize,
 }
 
-fn unfinished_by(layer: Layer) -> &'static [u8]
-    ensures value { result.now ≡ fields_of (codes "unfinished") layer }
-{
-    match layer {
-        Layer::CaseText => b"unfinished,case-text",
-        Layer::EvidenceText => b"unfinished,evidence-text",
-        Layer::Case => b"unfinished,case",
-        Layer::Run => b"unfinished,run",
-        Layer::Certificate => b"unfinished,certificate",
-    }
-}
-
-fn refused_by(layer: Layer) -> &'static [u8]
-    ensures value { result.now ≡ fields_of (codes "refused") layer }
-{
-    match layer {
-        Layer::CaseText => b"refused,case-text",
-        Layer::EvidenceText => b"refused,evidence-text",
-        Layer::Case => b"refused,case",
-        Layer::Run => b"refused,run",
-        Layer::Certificate => b"refused,certificate",
+impl VerdictRow {
+    // Without a refusal the place is the number of items taken.
+    pub fn of(judgement: &Judgement) -> VerdictRow
+        ensures value { row_of result ≡ told (said judgement.now) }
+    {
+        match judgement {
+            Ok(ruling) => ruling.row(),
+            Err(fault) => VerdictRow {
+                verdict: b"refused",
+                layer: fault.layer(),
+                refusal: fault.number(),
+                place: fault.place(),
+            },
+        }
     }
 }

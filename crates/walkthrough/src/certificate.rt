@@ -1,28 +1,22 @@
 // The third chapter: a certificate for the same execution.
 use case::checked::CheckedCase;
-use machines::faults::CertificateFault;
+use machines::faults::{CertificateFault, ItemFault};
+use machines::items::CertificateItem;
+use machines::items::CertificateItem::{Come, Move};
 use machines::lists::Certificate;
 use records::Item;
 use std::io;
 
-const fn passes(thread: u8, place: u8, count: u8) -> Item {
-    Item {
-        letter: b'M',
+// The read behind a plain write that carries no reads along comes before it.
+fn passes(thread: u8, place: u8) -> CertificateItem {
+    Move {
         thread,
         place,
-        count,
-    }
-}
-
-const fn comes(thread: u8) -> Item {
-    Item {
-        letter: b'O',
-        thread,
-        place: 0,
         count: 0,
     }
 }
 
+// The short words of this program; the fault's own are longer and speak to whoever reads a verdict.
 fn explained(fault: CertificateFault) -> &'static str {
     match fault {
         CertificateFault::NotOfCertificate => "no item of a certificate",
@@ -67,29 +61,14 @@ pub fn chapter(rt: &impl Print, case: &CheckedCase) -> io::Result<()> {
         "The compiler group says which reads were moved before which writes, and then one order of all actions."
     )?;
     let mut checker = Certificate::new();
-    let order = [
-        comes(0),
-        comes(0),
-        comes(1),
-        comes(0),
-        comes(1),
-        comes(0),
-        comes(1),
-    ];
+    let order = [0, 0, 1, 0, 1, 0, 1].map(|thread| Item::from(Come(thread)));
+    let mut moved = [Item::default(); 9];
+    moved[0] = passes(0, 2).into();
+    moved[1] = passes(1, 1).into();
+    moved[2..].copy_from_slice(&order);
     println!(rt;
         "In each thread the read passes the write, and then the threads come 0 0 1 0 1 0 1:"
     )?;
-    let moved = [
-        passes(0, 2, 0),
-        passes(1, 1, 0),
-        order[0],
-        order[1],
-        order[2],
-        order[3],
-        order[4],
-        order[5],
-        order[6],
-    ];
     show_all(rt, &mut checker, case, &moved)?;
     println!(rt; "The same order without the moves:")?;
     show_all(rt, &mut checker, case, &order)

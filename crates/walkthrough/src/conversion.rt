@@ -2,37 +2,35 @@
 use case::checked::CheckedCase;
 use conversions::certificate::to_certificate;
 use conversions::replay::to_run;
+use machines::items::{CertificateItem, RunItem};
 use records::Item;
 use std::io;
 
-const NONE: Item = Item {
-    letter: 0,
-    thread: 0,
-    place: 0,
-    count: 0,
-};
-
-const fn perform(thread: u8) -> Item {
-    Item {
-        letter: b'A',
-        thread,
-        place: 0,
-        count: 0,
-    }
-}
-
-fn show_items(rt: &impl Print, items: &[Item]) -> io::Result<()> {
+fn show_certificate(rt: &impl Print, items: &[Item]) -> io::Result<()> {
     for item in items {
-        let thread = item.thread;
-        let place = item.place;
-        let count = item.count;
-        match item.letter {
-            b'M' => println!(rt;
+        match CertificateItem::try_from(*item) {
+            Ok(
+                CertificateItem::Move {
+                    thread,
+                    place,
+                    count,
+                },
+            ) => println!(rt;
                 "    M: thread {thread}, place {place}, carrying {count} reads along"
             )?,
-            b'O' => println!(rt; "    O: thread {thread}")?,
-            b'A' => println!(rt; "    A: thread {thread}")?,
-            _ => println!(rt; "    D: thread {thread}")?,
+            Ok(CertificateItem::Come(thread)) => println!(rt; "    O: thread {thread}")?,
+            Err(_) => println!(rt; "    no item of a certificate")?,
+        }
+    }
+    Ok(())
+}
+
+fn show_run(rt: &impl Print, items: &[Item]) -> io::Result<()> {
+    for item in items {
+        match RunItem::try_from(*item) {
+            Ok(RunItem::Perform(thread)) => println!(rt; "    A: thread {thread}")?,
+            Ok(RunItem::Drain(thread)) => println!(rt; "    D: thread {thread}")?,
+            Err(_) => println!(rt; "    no item of a run")?,
         }
     }
     Ok(())
@@ -41,16 +39,8 @@ fn show_items(rt: &impl Print, items: &[Item]) -> io::Result<()> {
 pub fn chapter(rt: &impl Print, case: &CheckedCase) -> io::Result<()> {
     println!(rt; "")?;
     println!(rt; "4. The conversions")?;
-    let run = [
-        perform(0),
-        perform(0),
-        perform(1),
-        perform(0),
-        perform(1),
-        perform(0),
-        perform(1),
-    ];
-    let mut certificate = [NONE; 4352];
+    let run = [0, 0, 1, 0, 1, 0, 1].map(|thread| Item::from(RunItem::Perform(thread)));
+    let mut certificate = [Item::default(); 4352];
     match to_certificate(case, &run, &mut certificate) {
         Err(fault) => {
             let number = fault.number();
@@ -64,8 +54,8 @@ pub fn chapter(rt: &impl Print, case: &CheckedCase) -> io::Result<()> {
             )?;
         }
     }
-    show_items(rt, &certificate[0..9])?;
-    let mut back = [NONE; 512];
+    show_certificate(rt, &certificate[0..9])?;
+    let mut back = [Item::default(); 512];
     match to_run(case, &certificate[0..9], &mut back) {
         Err(fault) => {
             let number = fault.number();
@@ -75,7 +65,7 @@ pub fn chapter(rt: &impl Print, case: &CheckedCase) -> io::Result<()> {
             println!(rt;
                 "And back: a run of {count} items, in which each write drains where the order has it:"
             )?;
-            show_items(rt, &back[0..9])
+            show_run(rt, &back[0..9])
         }
     }
 }

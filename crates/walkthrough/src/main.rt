@@ -14,66 +14,29 @@ use records::Record;
 use records::action::Action;
 use std::io;
 
-const STORE_BUFFERING: [Record; 7] = [
-    Record {
-        thread: 0,
-        letter: 'B',
-        target: 0,
-        value: 0,
-        seen: 0,
-        turn: 1,
-    },
-    Record {
-        thread: 0,
-        letter: 'S',
-        target: 1,
-        value: 0,
-        seen: 0,
-        turn: 2,
-    },
-    Record {
-        thread: 0,
-        letter: 'w',
-        target: 0,
-        value: 1,
-        seen: 0,
-        turn: 0,
-    },
-    Record {
-        thread: 0,
-        letter: 'r',
-        target: 1,
-        value: 0,
-        seen: 513,
-        turn: 0,
-    },
-    Record {
-        thread: 1,
-        letter: 'B',
-        target: 0,
-        value: 0,
-        seen: 0,
-        turn: 3,
-    },
-    Record {
-        thread: 1,
-        letter: 'w',
-        target: 1,
-        value: 1,
-        seen: 0,
-        turn: 0,
-    },
-    Record {
-        thread: 1,
-        letter: 'r',
-        target: 0,
-        value: 0,
-        seen: 512,
-        turn: 0,
-    },
+// thread, letter, target, value, seen and turn
+const STORE_BUFFERING: [(u8, char, u8, u32, u16, u16); 7] = [
+    (0, 'B', 0, 0, 0, 1),
+    (0, 'S', 1, 0, 0, 2),
+    (0, 'w', 0, 1, 0, 0),
+    (0, 'r', 1, 0, 513, 0),
+    (1, 'B', 0, 0, 0, 3),
+    (1, 'w', 1, 1, 0, 0),
+    (1, 'r', 0, 0, 512, 0),
 ];
 
-// What is wrong, in words.
+fn store_buffering() -> [Record; 7] {
+    STORE_BUFFERING.map(|(thread, letter, target, value, seen, turn)| Record {
+        letter,
+        value,
+        seen,
+        turn,
+        thread,
+        target,
+    })
+}
+
+// The short words of this program; the fault's own are longer and speak to whoever reads a verdict.
 fn explained(fault: &FormFault) -> &'static str {
     match fault {
         FormFault::Grouping(_) => "too many records, or not grouped by rising thread",
@@ -142,13 +105,13 @@ fn show_check(rt: &impl Print, case: &mut CheckedCase, records: &[Record]) -> io
 fn form_chapter(rt: &impl Print, case: &mut CheckedCase) -> io::Result<()> {
     println!(rt; "1. The records")?;
     println!(rt; "Store buffering, seven records of two threads. Are they in form?")?;
-    show_check(rt, case, &STORE_BUFFERING)?;
+    show_check(rt, case, &store_buffering())?;
     println!(rt; "Each record has a name, 64 times its thread plus its place in the thread:")?;
     show_names(rt, case)?;
     println!(rt;
         "A damaged copy, in which thread 1 begins (turn 2) before thread 0 spawns it (turn 3):"
     )?;
-    let mut damaged = STORE_BUFFERING;
+    let mut damaged = store_buffering();
     damaged[1].turn = 3;
     damaged[4].turn = 2;
     show_check(rt, case, &damaged)?;

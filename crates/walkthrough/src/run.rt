@@ -1,28 +1,13 @@
 // The second chapter: a run on the store-buffer machine, item by item.
 use case::checked::CheckedCase;
-use machines::faults::RunFault;
+use machines::faults::{ItemFault, RunFault};
+use machines::items::RunItem;
+use machines::items::RunItem::{Drain, Perform};
 use machines::rows::Run;
 use records::Item;
 use std::io;
 
-const fn perform(thread: u8) -> Item {
-    Item {
-        letter: b'A',
-        thread,
-        place: 0,
-        count: 0,
-    }
-}
-
-const fn drain(thread: u8) -> Item {
-    Item {
-        letter: b'D',
-        thread,
-        place: 0,
-        count: 0,
-    }
-}
-
+// The short words of this program; the fault's own are longer and speak to whoever reads a verdict.
 fn explained(fault: RunFault) -> &'static str {
     match fault {
         RunFault::NotOfRun => "no item of a run",
@@ -38,9 +23,10 @@ fn show_put(
     rt: &impl Print,
     run: &mut Run,
     case: &CheckedCase,
-    item: Item,
+    step: RunItem,
     words: &str,
 ) -> io::Result<()> {
+    let item = Item::from(step);
     let thread = item.thread;
     match run.put(case, item) {
         Ok(()) => println!(rt; "  thread {thread} {words}: taken"),
@@ -68,28 +54,28 @@ pub fn chapter(rt: &impl Print, case: &CheckedCase) -> io::Result<()> {
     )?;
     let mut run = Run::new();
     run.begin(case);
-    show_put(rt, &mut run, case, perform(0), "begins")?;
-    show_put(rt, &mut run, case, perform(0), "spawns thread 1")?;
-    show_put(rt, &mut run, case, perform(1), "begins")?;
+    show_put(rt, &mut run, case, Perform(0), "begins")?;
+    show_put(rt, &mut run, case, Perform(0), "spawns thread 1")?;
+    show_put(rt, &mut run, case, Perform(1), "begins")?;
     show_put(
         rt,
         &mut run,
         case,
-        perform(0),
+        Perform(0),
         "writes location 0, which waits in its buffer",
     )?;
     show_put(
         rt,
         &mut run,
         case,
-        perform(1),
+        Perform(1),
         "writes location 1, which waits in its buffer",
     )?;
     show_put(
         rt,
         &mut run,
         case,
-        perform(0),
+        Perform(0),
         "reads location 1 from memory, the default",
     )?;
     show_finished(rt, &run, case)?;
@@ -97,21 +83,21 @@ pub fn chapter(rt: &impl Print, case: &CheckedCase) -> io::Result<()> {
         rt,
         &mut run,
         case,
-        perform(1),
+        Perform(1),
         "reads location 0 from memory, the default",
     )?;
     show_finished(rt, &run, case)?;
     println!(rt; "The same, but thread 1 drains its write before thread 0 reads:")?;
     run.begin(case);
     for thread in [0u8, 0, 1, 0, 1] {
-        let _ = run.put(case, perform(thread));
+        let _ = run.put(case, Perform(thread).into());
     }
-    show_put(rt, &mut run, case, drain(1), "drains its write to memory")?;
+    show_put(rt, &mut run, case, Drain(1), "drains its write to memory")?;
     show_put(
         rt,
         &mut run,
         case,
-        perform(0),
+        Perform(0),
         "reads location 1 from memory",
     )
 }

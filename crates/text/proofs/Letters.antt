@@ -1,6 +1,7 @@
 -- Letters of the alphabet, and of a column.
-use Rattle.std.proofs.Common.{◌≡◌, ℕ, ◌<◌, true, false, ◌&&◌, eqb, leb, List, [], ◌∷◌, ap, ◌∙◌, ⊎_elim, arith}
+use Rattle.std.proofs.Common.{◌≡◌, ℕ, ◌<◌, true, false, ◌&&◌, ◌||◌, eqb, leb, List, [], ◌∷◌, refl, ap, ◌∙◌, ⊎_elim, arith}
 use Rattle.std.specs.Char.{is_ascii_alphabetic}
+use Rattle.std.specs.List.{list_any}
 use Rattle.std.proofs.lemmas.Bool.{cases_Bool, both_ways, and_parts, or_cases, leb-true, eqb-true, false≢true}
 use Rattle.records.specs.Letters.{among}
 use Rattle.text.specs.Sheets.{all_letters}
@@ -25,3 +26,7 @@ among-letter n (c ∷ cs) p h =
 
 pub not_among : (n : ℕ) (ls : List ℕ) → all_letters ls ≡ true → is_ascii_alphabetic n ≡ false → among n ls ≡ false
 not_among n ls p h = ⊎_elim (λ e. absurd (both_ways (is_ascii_alphabetic n) h (among-letter n ls p e))) (λ e. e) (cases_Bool (among n ls))
+
+pub among_any : (n : ℕ) (ls : List ℕ) → among n ls ≡ list_any (λ l. eqb n l) ls
+among_any n [] = refl
+among_any n (c ∷ cs) = ap (λ b. eqb n c || b) (among_any n cs)

@@ -4,6 +4,7 @@ use Rattle.std.proofs.lemmas.List.{set_at, drop_more, take-append-drop, length-t
 use Rattle.std.proofs.lemmas.Slice.{drop-append-drop}
 use Rattle.std.proofs.lemmas.Fmt.{decimal_digit, decimal_step}
 use Rattle.text.specs.Writing.{placed}
+use Rattle.text.proofs.Numerals.{length-step}
 
 pub placed-none : (s : List ℕ) (at : ℕ) → s ≡ placed s at []
 placed-none s at =
@@ -58,9 +59,6 @@ placed-over s a b le = ap (λ t. b ++ t) (drop-append-drop (0 + length a) s a (0
 -- ── Digits ──
 pub one_digit : (s : List ℕ) (at n : ℕ) → n < 10 → at < length s → set s at (48 + n) ≡ placed s at (decimal n)
 one_digit s at n small room = placed_one s at (48 + n) room ∙ ap (placed s at) (sym (decimal_digit n small))
-
-pub length-step : (n : ℕ) → 10 ≤ n → n < 2 ^ 64 → length (decimal n) ≡ length (decimal (n / 10)) + 1
-length-step n big fits = ap length (decimal_step n big fits) ∙ length_push (decimal (n / 10)) (48 + n % 10)
 
 pub more-digits : (s t : List ℕ) (at e n : ℕ) → 10 ≤ n → n < 2 ^ 64 → at + length (decimal n) ≤ length s → e ≡ at + length (decimal (n / 10)) → t ≡ placed s at (decimal (n / 10)) → set t e (48 + n % 10) ≡ placed s at (decimal n)
 more-digits s t at e n big fits room ends is =

@@ -1,9 +1,16 @@
--- A file of one row, whose front its writer has made.
-use Rattle.std.specs.Prelude.{ℕ, List, [], ◌∷◌, ◌++◌, decimal}
+-- A file of one row, whose fields are words and numbers.
+use Rattle.std.specs.Prelude.{ℕ, List, ◌++◌, map, decimal}
+use Rattle.text.specs.declared.report.Cell.{Cell}
+use Rattle.text.specs.declared.report.Cell.TheVariants.{Word, Number}
 use Rattle.text.specs.Csv.{comma, join}
 use Rattle.text.specs.Sheets.{ended}
 pub use Rattle.text.specs.Writing.{fitting}
 
--- a file of one row that begins with these bytes and ends with two numbers
-abbrev pub report_text : List ℕ → List ℕ → ℕ → ℕ → List ℕ
-report_text header front a b = ended header ++ ended (join comma (front ∷ decimal a ∷ decimal b ∷ []))
+-- a word is written as it is, a number in decimal digits
+abbrev pub cell_bytes : Cell → List ℕ
+cell_bytes (Word s) = s.now
+cell_bytes (Number n) = decimal n
+
+-- the header's line, and the line of the fields
+abbrev pub report_text : List ℕ → List Cell → List ℕ
+report_text header row = ended header ++ ended (join comma (map cell_bytes row))

@@ -6,36 +6,24 @@ ghost use Rattle.text.specs.Lines.{body_of, Off};
 
 // A line without its CR LF, the number of its fields, and the text behind it.
 #[derive(Clone, Copy)]
-pub struct Line<'a> {
-    pub body: &'a [u8],
-    pub fields: usize,
-    pub rest: &'a [u8],
+pub(crate) struct Line<'a> {
+    pub(crate) body: &'a [u8],
+    pub(crate) fields: usize,
+    pub(crate) rest: &'a [u8],
 }
 
 impl<'a> Line<'a> {
     // The first line of a text; none where it is not ended by CR LF, or has a CR or LF of its own.
-    pub fn first(text: &'a [u8]) -> Option<Line<'a>>
+    pub(crate) fn first(text: &'a [u8]) -> Option<Line<'a>>
         ensures value { option_map body_of result ≡ first_line (lines text.now) }
         ensures off { IfSome result (λ l. Off text.now l) }
     {
-        let mut fields = 1;
-        for (i, b) in text.iter().enumerate() {
-            match *b {
-                b',' => fields += 1,
-                b'\n' => return None,
-                b'\r' => {
-                    if i + 1 < text.len() && text[i + 1] == b'\n' {
-                        return Some(Line {
-                            body: &text[0..i],
-                            fields,
-                            rest: &text[i + 2..],
-                        });
-                    }
-                    return None;
-                }
-                _ => {}
-            }
-        }
-        None
+        let end = text.iter().position(|b| matches!(b, b'\r' | b'\n'))?;
+        let (body, behind) = text.split_at(end);
+        let [b'\r', b'\n', rest @ ..] = behind else {
+            return None;
+        };
+        let fields = body.iter().filter(|b| **b == b',').count() + 1;
+        Some(Line { body, fields, rest })
     }
 }

@@ -1,53 +1,63 @@
-use Rattle.std.proofs.Common.{◌≡◌, ◌+◌, ◌-◌, eqb, length, take, drop, Some, sym, ap, ◌∙◌, arith, length-drop}
-use Rattle.std.proofs.lemmas.List.{length-take-le}
-use Rattle.std.proofs.lemmas.List.Sums.{count_by-le-length}
-use Rattle.text.specs.Csv.{comma, cr, lf, lines}
-use Rattle.text.proofs.Scans.{free_more, count_yes, count_no, rest_of_lem, lines_at, line-found, line_lf, line_cr, line-last, line_open}
+use Rattle.std.proofs.Common.{◌≡◌, ◌+◌, ◌-◌, ◌<◌, eqb, length, get_or, take, drop, Some, count_by, sym, ap, ◌∙◌, rules, tests, arith, length-drop}
+use Rattle.std.specs.List.{position}
+use Rattle.std.proofs.lemmas.Bool.Decides.{nat_tests}
+use Rattle.std.proofs.lemmas.List.Sums.{length-filter}
+use Rattle.std.proofs.lemmas.Iterator.{YieldsList-from_slice}
+use Rattle.std.proofs.lemmas.Iterator.Consumers.{count_from_yields_List, YieldsList-from_filter}
+use Rattle.std.proofs.lemmas.Iterator.Search.{position_from_yields_List}
+use Rattle.text.specs.Csv.{comma, cr, lf, fields, lines}
+use Rattle.text.proofs.Scans.{ends, ended_at, line_open, line_broken, line-found, lines_at, behind_at, rest_behind}
 use Rattle.text.proofs.Splits.{length-split}
 use Rattle.text.proofs.line.Line.first.Goals as goal
-use Rattle.text.proofs.line.Line.first.Goals.{in-44, in_default, else-i-text-via-then-i-text+else-text-i-eq10, else-i-text-via-else-i-text}
+use Rattle.text.proofs.line.Line.first.Goals.{in_default-via-then-behind-lt2, in_default-via-else-behind-lt2+in-13+in_default-1, in_default-via-else-behind-lt2+in_default-1}
 
-pub overflow_add-fields : goal.overflow_add-fields
-overflow_add-fields c =
-    record { fits = omega (arith, count_by-le-length (λ x. eqb x comma) (take c.loop-i.i c.args.text.now), length-take-le c.loop-i.i c.args.text.now (omega arith)) }
+pub returns-in_err-end-clause-value : goal.returns-in_err-end-clause-value
+returns-in_err-end-clause-value c =
+    let s = c.args.text.now in
+    let is : c.position.result ≡ position ends s = position_from_yields_List ends _ _ c.position.result c.position.ensures.ran (YieldsList-from_slice s c.iter.ensures.rest) (λ x b q k. search (rules, tests)) in
+    rw c.from_residual.ensures (sym (line_open s (sym is ∙ c.in_err-end.was)))
 
-pub returns-in-10 : goal.returns-in-10
-returns-in-10 c = record { value = sym (line_lf c.args.text.now c.loop-i.i c.loop-i.invariant.0 c.loop-i.invariant.1 c.loop-i-test.true c.in-10.is); off = tt }
+pub returns-in_default-clause-value : goal.returns-in_default-clause-value
+returns-in_default-clause-value c =
+    let s = c.args.text.now in let i = c.in_ok-end.end in let behind = c.split_at.result.1.now in
+    let is : c.position.result ≡ position ends s = position_from_yields_List ends _ _ c.position.result c.position.ensures.ran (YieldsList-from_slice s c.iter.ensures.rest) (λ x b q k. search (rules, tests)) in
+    sym (line_broken s i (ended_at s i (sym is ∙ c.in_ok-end.was)) (λ a l b.
+    let first : get_or behind 0 0 ≡ 13 = behind_at s behind i 0 i c.split_at.ensures.back (omega arith) ∙ a in
+    let second : get_or behind 1 0 ≡ 10 = behind_at s behind i 1 (i + 1) c.split_at.ensures.back (omega arith) ∙ b in
+    let two : 1 < length behind = omega (arith, c.split_at.ensures.back_len) in
+    elim c.in_default.branch [
+      | in_default-via-then-behind-lt2 w ↦ absurd (grind (arith, nat_tests))
+      | in_default-via-else-behind-lt2+in-13+in_default-1 w ↦ absurd (grind (arith, nat_tests))
+      | in_default-via-else-behind-lt2+in_default-1 w ↦ absurd (grind (arith, nat_tests))
+    ]))
 
-pub returns-then-text-i-eq10 : goal.returns-then-text-i-eq10
-returns-then-text-i-eq10 c =
-    let s = c.args.text.now in let i = c.loop-i.i in
-    let z : i - 0 ≡ i = omega arith in
-    let body = ap (λ k. take k s) z in
+pub returns-clause-value : goal.returns-clause-value
+returns-clause-value c =
+    let s = c.args.text.now in let i = c.in_ok-end.end in let behind = c.split_at.result.1.now in
+    let is : c.position.result ≡ position ends s = position_from_yields_List ends _ _ c.position.result c.position.ensures.ran (YieldsList-from_slice s c.iter.ensures.rest) (λ x b q k. search (rules, tests)) in
+    let e = ended_at s i (sym is ∙ c.in_ok-end.was) in
+    let first : get_or behind 0 0 ≡ 13 = grind (arith, nat_tests) in
+    let second : get_or behind 1 0 ≡ 10 = grind (arith, nat_tests) in
+    ap (λ t. Some t) c.split_at.ensures.front
+    ∙ sym (line-found s i e.no_cr e.no_lf (omega (arith, c.in-13.len_at_least, c.split_at.ensures.back_len))
+    (sym (behind_at s behind i 0 i c.split_at.ensures.back (omega arith)) ∙ first) (sym (behind_at s behind i 1 (i + 1) c.split_at.ensures.back (omega arith)) ∙ second))
+
+pub returns-clause-off : goal.returns-clause-off
+returns-clause-off c =
+    let s = c.args.text.now in let i = c.in_ok-end.end in let behind = c.split_at.result.1.now in
+    let is : c.position.result ≡ position ends s = position_from_yields_List ends _ _ c.position.result c.position.ensures.ran (YieldsList-from_slice s c.iter.ensures.rest) (λ x b q k. search (rules, tests)) in
+    let e = ended_at s i (sym is ∙ c.in_ok-end.was) in
+    let first : get_or behind 0 0 ≡ 13 = grind (arith, nat_tests) in
+    let second : get_or behind 1 0 ≡ 10 = grind (arith, nat_tests) in
+    let rest : take (length behind - 2) (drop 2 behind) ≡ drop (i + 2) s = rest_behind s behind i c.split_at.ensures.back in
+    let whole = lines_at s i e.no_cr e.no_lf (omega (arith, c.in-13.len_at_least, c.split_at.ensures.back_len))
+    (sym (behind_at s behind i 0 i c.split_at.ensures.back (omega arith)) ∙ first) (sym (behind_at s behind i 1 (i + 1) c.split_at.ensures.back (omega arith)) ∙ second) in
+    let body = c.split_at.result.0.now in
+    let commas : c.count-fields.result ≡ count_by (λ b. eqb b comma) body =
+    count_from_yields_List c.filter.result _ c.count-fields.ensures.ran (YieldsList-from_filter _ (λ b. eqb b comma) (YieldsList-from_slice body cc) c.filter.ensures.closure (λ x b q k. search (rules, tests)))
+    ∙ length-filter (λ b. eqb b comma) body in
     record {
-      value = ap (λ t. Some t) body ∙ sym (line-found s i c.loop-i.invariant.0 c.loop-i.invariant.1 c.if-i-text.true c.in-13.is c.if-text-i-eq10.true);
-      off =
-          record {
-            count = c.loop-i.invariant.2 ∙ sym (length-split comma (take i s)) ∙ ap (λ t. length (Rattle.text.specs.Csv.fields t)) (sym body);
-            after = ap lines (rest_of_lem s (i + 2)) ∙ sym (ap (drop 1) (lines_at s i c.loop-i.invariant.0 c.loop-i.invariant.1 c.if-i-text.true c.in-13.is c.if-text-i-eq10.true));
-            less = omega (arith, ap length (rest_of_lem s (i + 2)), length-drop (i + 2) s);
-          };
+      count = ap (λ n. n + 1) commas ∙ sym (length-split comma body);
+      after = ap lines rest ∙ sym (ap (drop 1) whole);
+      less = omega (arith, ap length rest, length-drop (i + 2) s, e.inside);
     }
-
-pub returns-in-13 : goal.returns-in-13
-returns-in-13 c =
-    let s = c.args.text.now in let i = c.loop-i.i in
-    record {
-      value =
-          elim c.else-i-text.branch [
-            | else-i-text-via-then-i-text+else-text-i-eq10 w ↦ sym (line_cr s i c.loop-i.invariant.0 c.loop-i.invariant.1 w.if-i-text.true c.in-13.is w.if-text-i-eq10.false)
-            | else-i-text-via-else-i-text w ↦ sym (line-last s i c.loop-i.invariant.0 c.loop-i.invariant.1 w.if-i-text.false c.loop-i-test.true c.in-13.is)
-          ];
-      off = tt;
-    }
-
-pub loop-i-preserved : goal.loop-i-preserved
-loop-i-preserved c =
-    let s = c.args.text.now in let i = c.loop-i.i in let l = c.loop-i-test.true in
-    elim c.match-b.branch [
-      | in-44 w ↦ (free_more s i l cr c.loop-i.invariant.0 (λ e. omega (arith, w.in-44.is)), free_more s i l lf c.loop-i.invariant.1 (λ e. omega (arith, w.in-44.is)), w.fields-is ∙ count_yes s i l comma c.loop-i.fields c.loop-i.invariant.2 w.in-44.is)
-      | in_default w ↦ (free_more s i l cr c.loop-i.invariant.0 (λ e. omega arith), free_more s i l lf c.loop-i.invariant.1 (λ e. omega arith), w.fields-is ∙ count_no s i l comma c.loop-i.fields c.loop-i.invariant.2 (λ e. omega arith))
-    ]
-
-pub returns : goal.returns
-returns c = record { value = sym (line_open c.args.text.now c.loop-i.i c.loop-i.invariant.0 c.loop-i.invariant.1 c.loop-i-test.false); off = tt }

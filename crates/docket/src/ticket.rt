@@ -1,6 +1,6 @@
-// Tickets. One is made by `open` and goes back by `settle` or `withdraw`; nothing else makes or spends one, and a program
-// that lets go of one that was not spent has no proof, so it is not built.
-ghost use Rattle.std.specs.Prelude.{◌≡◌, true, false};
+// Tickets. One is made by `open` and goes back by `settle` or `withdraw`; nothing else makes or takes one, and a program
+// that lets go of one is not built, since a ticket has no `Drop`.
+ghost use Rattle.std.specs.Prelude.{◌≡◌};
 
 // What stands on a ticket: the docket's number, and which of its examinations this is, from 1.
 #[derive(Clone, Copy, Debug, PartialEq)]
@@ -9,24 +9,24 @@ pub struct TicketName {
     pub examination: u16,
 }
 
+#[must_use]
 pub struct Ticket {
     name: TicketName,
-    spent: bool,
 }
 
 impl Drop for Ticket {
     fn drop(self)
-        requires { self.spent ≡ true }
+        requires { ⊥ }
     {
-        let Ticket { name: _, spent: _ } = self;
+        let Ticket { name: _ } = self;
     }
 }
 
 impl Ticket {
     pub(crate) fn new(name: TicketName) -> Ticket
-        ensures made { result ≡ record { name = name; spent = false } }
+        ensures made { result ≡ record { name = name } }
     {
-        Ticket { name, spent: false }
+        Ticket { name }
     }
 
     pub fn name(&self) -> TicketName
@@ -35,7 +35,8 @@ impl Ticket {
         self.name
     }
 
-    pub(crate) fn spend(mut self) {
-        self.spent = true;
+    // Its end: the docket has it back.
+    pub(crate) fn spend(self) {
+        let Ticket { name: _ } = self;
     }
 }

@@ -3,24 +3,23 @@
 // It is run in the folder data/. A file that cannot be read counts as empty, as it does for the judge.
 #![tactic(auto)]
 
+use console::read_or_empty;
 use std::str::from_utf8;
 use std::{fs, io};
 use verdict::write_verdict;
 
 fn text(rt: &HostRuntime, folder: &str, file: &str) -> io::Result<Vec<u8>> {
     let path = format!(in rt.alloc(); "{folder}/{file}")?;
-    match fs::read(rt, path.as_str()) {
-        Ok(text) => Ok(text),
-        Err(_) => Ok(Vec::new(rt.alloc())),
-    }
+    read_or_empty(rt, path.as_str(), true)
 }
 
 // The second line of a verdict.
 fn row(verdict: &[u8]) -> &str {
-    match from_utf8(verdict) {
-        Ok(text) => text.lines().nth(1).unwrap_or(""),
-        Err(_) => "",
-    }
+    from_utf8(verdict)
+        .unwrap_or("")
+        .lines()
+        .nth(1)
+        .unwrap_or("")
 }
 
 fn judge(rt: &HostRuntime, folder: &str) -> io::Result<()> {

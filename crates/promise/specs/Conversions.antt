@@ -8,15 +8,16 @@ use Rattle.machines.specs.Machine.{completes}
 use Rattle.machines.specs.Run.{run_machine}
 use Rattle.agreement.specs.Evidence.{written, replayed}
 use Rattle.conversions.specs.declared.certificate.Written.{Written}
-use Rattle.conversions.specs.declared.fault.ConversionFault.{ConversionFault}
 use Rattle.conversions.specs.Counts.{Counted}
-use Rattle.conversions.specs.Faults.{refusal_in, conversion_refusal}
+use Rattle.conversions.specs.Faults.{conversion_refusal}
 use Rattle.conversions.specs.Fronts.{put}
 use Rattle.promise.specs.declared.Direction.{Direction}
 use Rattle.promise.specs.declared.Direction.TheVariants.{ToCertificate, ToRun}
+use Rattle.promise.specs.declared.fault.NotConverted.{NotConverted}
+use Rattle.promise.specs.Faults.{refusal_in}
 
 -- of evidence `is`, into a list that was `before` and is `after`
-module _ (k : CheckedCase) (is before after : List Item) (r : Result Written ConversionFault) where
+module _ (k : CheckedCase) (is before after : List Item) (r : Result Written NotConverted) where
   -- a run: refused with nothing written, or the list by moments at the front, which is a complete certificate, with its
   -- numbers of items and of moves
   pub record CertificateWritten : Type 0 where

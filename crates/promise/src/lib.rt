@@ -19,15 +19,17 @@ ghost use Rattle.docket.specs.Promise.{ByEvidence, Answered, RuledOnItems, Slots
 ghost use Rattle.docket.specs.Slots.{desk};
 ghost use Rattle.promise.specs.Conversions.{Converts};
 
+pub mod fault;
+
 use agreement::runs_and_certificates_agree;
 use case::checked::CheckedCase;
 use conversions::certificate::{Written, to_certificate};
-use conversions::fault::ConversionFault;
 use conversions::replay::to_run;
 use docket::Docket;
 use docket::calls::{Answer, Call};
 use docket::ticket::Ticket;
 use docket::work::session;
+use fault::NotConverted;
 use kinds::Evidence;
 use records::Item;
 
@@ -43,7 +45,7 @@ pub enum Direction {
 #[derive(Drop)]
 pub struct Served<K: Evidence> {
     pub docket: Result<Docket<K>, K>,
-    pub converted: Result<Written, ConversionFault>,
+    pub converted: Result<Written, NotConverted>,
 }
 
 // Into the front of a list, and how many items that are; a run has no moves.
@@ -52,15 +54,15 @@ fn convert(
     direction: Direction,
     evidence: &[Item],
     out: &mut [Item],
-) -> Result<Written, ConversionFault>
+) -> Result<Written, NotConverted>
     ensures converts { Converts case.now evidence.now out.old out.new result direction }
 {
     match direction {
-        Direction::ToCertificate => to_certificate(case, evidence, out),
-        Direction::ToRun => match to_run(case, evidence, out) {
-            Ok(items) => Ok(Written { items, moves: 0 }),
-            Err(fault) => Err(fault),
-        },
+        Direction::ToCertificate => Ok(to_certificate(case, evidence, out)?),
+        Direction::ToRun => Ok(Written {
+            items: to_run(case, evidence, out)?,
+            moves: 0,
+        }),
     }
 }
 
@@ -71,16 +73,16 @@ pub fn examine_and_convert<K: Evidence>(
     number: u16,
     held: &mut [Option<Ticket>],
     calls: &[Call],
-    answers: &mut [Option<Answer>],
+    answers: &mut [Option<Answer<K::Fault>>],
     direction: Direction,
     evidence: &[Item],
     out: &mut [Item],
 ) -> Served<K>
     ensures room { is_ok result.docket ≡ nat_le (length calls.now) (length answers.old) }
     ensures untouched { IfErr result.docket (λ k. (k ≡ checker) × (held.new ≡ held.old) × (answers.new ≡ answers.old)) }
-    ensures answers { OnOk result.docket (Answered (K.machine case.now) number (desk empty held.old) calls.now answers.new) }
+    ensures answers { OnOk result.docket (Answered (K.machine case.now) number (desk empty held.old) calls.now K.Fault.number answers.new) }
     ensures rest { drop (length calls.now) answers.new ≡ drop (length calls.now) answers.old }
-    ensures rulings { OnOk result.docket (RuledOnItems (K.machine case.now) number (desk empty held.old) calls.now answers.new) }
+    ensures rulings { OnOk result.docket (RuledOnItems (K.machine case.now) number (desk empty held.old) calls.now K.Fault.number answers.new) }
     ensures tickets { OnOk result.docket (SlotsLeft (K.machine case.now) number (desk empty held.old) calls.now held.new) }
     ensures returned { OnOk result.docket (TidySlots held.old calls.now held.new) }
     ensures counts { IfOk result.docket (λ d. CountsLeft (K.machine case.now) number (desk empty held.old) calls.now d.counts) }

@@ -5,15 +5,15 @@
 ghost use Rattle.std.specs.Prelude.{◌≡◌, true};
 ghost use Rattle.docket.specs.Slots.{tidy};
 
-use crate::items::{NONE, waiting_run};
 use case::checked::CheckedCase;
 use conversions::certificate::Written;
-use conversions::fault::ConversionFault;
 use docket::calls::{Answer, Call};
 use docket::counts::Counts;
 use docket::ticket::Ticket;
 use docket::{Docket, Verdict};
 use kinds::Evidence;
+use machines::faults::{CertificateFault, ItemFault, RunFault};
+use machines::items::RunItem;
 use machines::lists::Certificate;
 use machines::rows::Run;
 use promise::{Direction, Served, examine_and_convert};
@@ -27,7 +27,7 @@ fn serve<K: Evidence>(
     number: u16,
     old: Ticket,
     calls: &[Call],
-    answers: &mut [Option<Answer>],
+    answers: &mut [Option<Answer<K::Fault>>],
     direction: Direction,
     evidence: &[Item],
     out: &mut [Item],
@@ -92,7 +92,7 @@ fn first_nine(items: &[Item; 4352]) -> [Item; 9] {
     ]
 }
 
-fn show_answer(rt: &impl Print, answer: Option<Answer>) -> io::Result<()> {
+fn show_answer<F: ItemFault>(rt: &impl Print, answer: Option<Answer<F>>) -> io::Result<()> {
     match answer {
         None => println!(rt; "  the docket was not asked"),
         Some(Answer::Opened(name)) => {
@@ -130,7 +130,7 @@ fn show_counts(rt: &impl Print, counts: Counts) -> io::Result<()> {
 fn show_docket<K: Evidence + Drop>(
     rt: &impl Print,
     served: Served<K>,
-    answers: &[Option<Answer>],
+    answers: &[Option<Answer<K::Fault>>],
 ) -> io::Result<()> {
     let Served { docket, converted } = served;
     for answer in answers {
@@ -154,9 +154,9 @@ fn show_docket<K: Evidence + Drop>(
 #[derive(Drop)]
 struct Day {
     by_run: Served<Run>,
-    run_answers: [Option<Answer>; 12],
+    run_answers: [Option<Answer<RunFault>>; 12],
     by_certificate: Served<Certificate>,
-    certificate_answers: [Option<Answer>; 12],
+    certificate_answers: [Option<Answer<CertificateFault>>; 12],
 }
 
 // Docket 7 examines the run and converts it; docket 8 examines the certificate and converts it back. A ticket of another
@@ -166,9 +166,10 @@ fn work_a_day(case: &CheckedCase) -> Option<Day> {
     let Ok(old) = morning.open() else {
         return None;
     };
-    let run = waiting_run();
+    // the run of store buffering in which both writes wait to the end
+    let run = [0, 0, 1, 0, 1, 0, 1].map(|thread| Item::from(RunItem::Perform(thread)));
     let mut run_answers = [None; 12];
-    let mut certificate = [NONE; 4352];
+    let mut certificate = [Item::default(); 4352];
     let (by_run, old) = serve(
         Run::new(),
         case,
@@ -182,7 +183,7 @@ fn work_a_day(case: &CheckedCase) -> Option<Day> {
     );
     let moved = first_nine(&certificate);
     let mut certificate_answers = [None; 12];
-    let mut back = [NONE; 512];
+    let mut back = [Item::default(); 512];
     let (by_certificate, old) = serve(
         Certificate::new(),
         case,

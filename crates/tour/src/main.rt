@@ -6,34 +6,19 @@
 
 mod desk;
 mod files;
-mod items;
 
 use case::checked::CheckedCase;
 use records::Record;
 use std::{fs, io};
-use text::read_case;
-
-const BLANK: Record = Record {
-    thread: 0,
-    letter: 'B',
-    target: 0,
-    value: 0,
-    seen: 0,
-    turn: 0,
-};
+use text::read;
 
 // The case of a text, if it reads and is in form.
 fn case_of(text: &[u8]) -> Option<CheckedCase> {
-    let mut records = [BLANK; 256];
-    let count = match read_case(text, &mut records) {
-        Ok(count) if count <= 256 => count,
-        _ => return None,
-    };
+    let mut records = [Record::default(); 256];
+    let count = read(text, &mut records).ok()?;
     let mut case = CheckedCase::empty();
-    match case.fill(&records[0..count]) {
-        Ok(()) => Some(case),
-        Err(_) => None,
-    }
+    case.fill(records.get(..count)?).ok()?;
+    Some(case)
 }
 
 fn main(rt: HostRuntime) -> io::Result<()> {

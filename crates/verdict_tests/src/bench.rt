@@ -76,12 +76,11 @@ impl Bench {
             self.evidence.as_slice(),
             out.as_mut_slice(),
         );
-        let mut kept = 0u64;
-        for byte in out.as_slice() {
-            if *byte == UNTOUCHED {
-                kept = kept.saturating_add(1);
-            }
-        }
+        let kept = out
+            .as_slice()
+            .iter()
+            .filter(|byte| **byte == UNTOUCHED)
+            .count();
         match answer {
             Ok(count) if out.as_slice().starts_with(self.verdict.as_bytes()) => {
                 format!(in heap; "{count} written, {kept} as before")

@@ -1,6 +1,7 @@
 -- In reading order.
 -- Lists written into a lent one, and the loops that do so
 pub mod Fronts
+pub mod Sheets
 pub mod Loops
 -- The hosts of one thread, the moves of one read, and the table of all threads
 pub mod Staying

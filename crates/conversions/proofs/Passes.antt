@@ -1,86 +1,67 @@
 -- A loop that writes the moves of one read, from the newest host on.
-use Rattle.std.proofs.Common.{◌≡◌, ℕ, ◌+◌, ◌-◌, ◌<◌, ◌≤◌, List, [], ◌∷◌, length, get_or, take, set, sym, refl, ap, ◌∙◌, subst, arith}
-use Rattle.std.proofs.lemmas.List.{take_all}
+use Rattle.std.proofs.Common.{◌≡◌, ℕ, ◌+◌, ◌-◌, ◌≤◌, List, [], ◌∷◌, ◌++◌, sym, ap, ◌∙◌, arith}
 use Rattle.records.specs.declared.Item.{Item}
 use Rattle.conversions.specs.declared.hosts.Host.{Host}
-use Rattle.conversions.specs.Hosts.{new_host, width}
-use Rattle.conversions.specs.Fronts.{put}
+use Rattle.conversions.specs.declared.sheet.Sheet.{Sheet}
+use Rattle.conversions.specs.Hosts.{width}
 use Rattle.conversions.specs.Along.{move_of, passes, moves_before}
-use Rattle.conversions.proofs.Fronts.{Leads, leads-room, leads-more, leads-all, put_one}
-use Rattle.conversions.proofs.Staying.{length-passes, passes-front, width-front, width-drop}
+use Rattle.conversions.specs.Sheets.{Adds, Room}
+use Rattle.conversions.proofs.Sheets.{Leads, leads-start, leads-same, leads-room, leads-more, leads-all}
+use Rattle.conversions.proofs.Staying.{passes_push, width-append}
 
-module _ (t place : ℕ) (hs : List Host) (from : ℕ) (entry : List Item) where
-  -- n hosts are left, before the newest of which so many actions come
-  pub record Left (n before at : ℕ) (out : List Item) : Type 0 where
-    pub within : n ≤ length hs
-    pub ahead : before ≡ place - width hs + width (take n hs)
-    pub leads : Leads from entry (moves_before t place hs) at out (passes t (place - width hs) (take n hs))
+module _ (t place : ℕ) (hs : List Host) (first : Sheet) where
+  abbrev whole : List Item
+  whole = moves_before t place hs
 
-  pub left-all : width hs ≤ place → Left (length hs) place from entry
-  left-all fits =
-      let e = take_all (length hs) hs (omega arith) in
+  abbrev b : ℕ
+  b = place - width hs
+
+  -- these older hosts are left, before whose end so many actions come
+  pub record Left (older : List Host) (before : ℕ) (now : Sheet) : Type 0 where
+    pub low : before ≤ place
+    pub ahead : before ≡ b + width older
+    pub leads : Leads first whole now (passes t b older)
+
+  pub left-all : width hs ≤ place → (older : List Host) → older ≡ hs → Left older place first
+  left-all fits older e =
       record {
-        within = omega arith;
+        low = omega arith;
         ahead = let w = ap width e in omega arith;
-        leads = subst (λ l. Leads from entry (moves_before t place hs) from entry (passes t (place - width hs) l)) (sym e)
-            (record { list = refl; ends = refl; long = refl });
+        leads = leads-same first whole first (ap (passes t b) (sym e)) (leads-start first whole);
       }
 
-  pub left-low : width hs ≤ place → (n before at : ℕ) (out : List Item) → Left n before at out → before ≤ place
-  left-low fits n before at out h = let a = h.ahead in let w = width-drop n hs in omega arith
+  pub left-none : (older : List Host) (before : ℕ) (now : Sheet) → older ≡ [] → Left older before now → Adds whole first now
+  left-none older before now e h = leads-all first whole now (leads-same first whole now (ap (passes t b) e) h.leads)
 
-  pub left-none : (before at : ℕ) (out : List Item) → Left 0 before at out → (out ≡ put from (moves_before t place hs) entry) × (at ≡ from + length hs)
-  left-none before at out h =
-      let d = leads-all from entry (moves_before t place hs) at out h.leads in
-      (d.0, d.1 ∙ ap (λ n. from + n) (length-passes t (place - width hs) hs))
-
-  module _ (room : from + length hs ≤ length entry) (n before at : ℕ) (out : List Item) (some : 0 < n) (h : Left n before at out) where
-    abbrev b : ℕ
-    b = place - width hs
-
-    abbrev joined : ℕ
-    joined = (get_or hs (n - 1) (new_host 0)).joined
-
-    abbrev move : Item
-    move = move_of t (before - (joined + 1)) joined
-
-    again : n ≡ n - 1 + 1
-    again = omega arith
-
-    last : n - 1 < length hs
-    last = let w = h.within in omega arith
-
-    width-less : before ≡ b + width (take (n - 1) hs) + (joined + 1)
-    width-less =
-        let w = ap (λ k. width (take k hs)) again ∙ width-front hs (n - 1) (new_host 0) last in
+  -- the newest of those that are left is passed
+  module _ (room : Room whole first) (host : Host) (older rest : List Host) (before : ℕ) (now : Sheet)
+      (e : older ≡ rest ++ host ∷ []) (h : Left older before now) where
+    wider : before ≡ b + width rest + (host.joined + 1)
+    wider =
+        let w = ap width e ∙ width-append rest (host ∷ []) in
         let a = h.ahead in
         omega arith
 
-    pub left-wide : joined + 1 ≤ before
-    left-wide = let w = width-less in omega arith
+    pub left-wide : host.joined + 1 ≤ before
+    left-wide = let w = wider in omega arith
 
-    leads : Leads from entry (moves_before t place hs) at out (move ∷ passes t b (take (n - 1) hs))
-    leads =
-        let w = width-less in
-        let p : b + width (take (n - 1) hs) ≡ before - (joined + 1) = omega arith in
-        let e : passes t b (take n hs) ≡ move ∷ passes t b (take (n - 1) hs) =
-        ap (λ k. passes t b (take k hs)) again ∙ passes-front t b hs (n - 1) (new_host 0) last
-        ∙ ap {B = List Item} (λ k. move_of t k joined ∷ passes t b (take (n - 1) hs)) p in
-        subst (Leads from entry (moves_before t place hs) at out) e h.leads
+    module _ (item : Item) (is : item ≡ move_of t (before - (host.joined + 1)) host.joined) where
+      leads : Leads first whole now (item ∷ passes t b rest)
+      leads =
+          let w = wider in
+          let p : b + width rest ≡ before - (host.joined + 1) = omega arith in
+          leads-same first whole now
+          (ap (passes t b) e ∙ passes_push t b rest host ∙ ap {B = List Item} (λ k. move_of t k host.joined ∷ passes t b rest) p
+          ∙ ap {B = List Item} (λ i. i ∷ passes t b rest) (sym is))
+          h.leads
 
-    space : from + length (moves_before t place hs) ≤ length entry
-    space = let l = length-passes t b hs in omega arith
+      pub left-room : Room (item ∷ []) now
+      left-room = leads-room first whole now (item ∷ []) (passes t b rest) room leads
 
-    pub left-room : at < length out
-    left-room =
-        let l : at + 1 ≤ length out = leads-room from entry (moves_before t place hs) at out (move ∷ []) (passes t b (take (n - 1) hs)) space leads in
-        omega arith
-
-    pub left_less : Left (n - 1) (before - (joined + 1)) (at + 1) (set out at move)
-    left_less =
-        record {
-          within = let w = h.within in omega arith;
-          ahead = let w = width-less in omega arith;
-          leads = leads-more from entry (moves_before t place hs) at out (move ∷ []) (passes t b (take (n - 1) hs)) space leads
-              (at + 1) (set out at move) (put_one at move out left-room) refl;
-        }
+      pub left_less : (next : Sheet) → Adds (item ∷ []) now next → Left rest (before - (host.joined + 1)) next
+      left_less next a =
+          record {
+            low = let l = h.low in omega arith;
+            ahead = let w = wider in omega arith;
+            leads = leads-more first whole now (item ∷ []) (passes t b rest) room leads next a;
+          }

@@ -1,7 +1,8 @@
 -- A loop that replays a certificate item by item: what is left of it leads to the whole run.
 use Rattle.std.proofs.Common.{◌≡◌, ℕ, zero, suc, ◌+◌, ◌<◌, ◌≤◌, true, List, [], ◌∷◌, ◌++◌, map, length, get_or, drop, set, replicate, Some, None, Ok, Option, sym, refl, ap, ◌∙◌, subst, ⊎_elim, arith}
 use mathlib.Core.Path.{fun_ext}
-use Rattle.std.proofs.lemmas.List.{append_assoc, get_or_default, drop_more, drop_all, length-replicate}
+use Rattle.std.specs.Option.{ok_or}
+use Rattle.std.proofs.lemmas.List.{append_assoc, get_or_default, drop_more, drop_all}
 use Rattle.std.proofs.lemmas.Bool.{cases_lt}
 use Rattle.records.specs.declared.Item.{Item}
 use Rattle.records.specs.declared.action.Action.{Action}
@@ -30,9 +31,10 @@ use Rattle.agreement.specs.Evidence.{certificate_items, replayed}
 use Rattle.agreement.proofs.CertificateSteps.{CertificateTaken, c_move, certificate_taken, Came, came}
 use Rattle.agreement.proofs.Theorems.{to_run_lem}
 use Rattle.kinds.specs.Duties.{sized}
-use Rattle.conversions.specs.Fronts.{put}
+use Rattle.conversions.specs.declared.sheet.Sheet.{Sheet}
 use Rattle.conversions.specs.Replays.{nexts, missing, performed, coming_items, coming_next, item_replay, item_next}
-use Rattle.conversions.proofs.Fronts.{put-nil, Leads, leads-room, leads-more, leads-all}
+use Rattle.conversions.specs.Sheets.{Adds, Room}
+use Rattle.conversions.proofs.Sheets.{Leads, leads-start, leads-same, leads-room, leads-more, leads-all}
 
 -- ── One action that comes ──
 again-front : (n : ℕ) (i : RunItem) (is : List RunItem) → map run_encoded (again n i is) ≡ replicate n (run_encoded i) ++ map run_encoded is
@@ -62,23 +64,11 @@ module _ (t : ℕ) (b : Action) (n : ℕ) where
       ∙ sym (append_assoc performs (drains t b) (map run_encoded is))
       ∙ ap (λ l. l ++ map run_encoded is) (sym (again-front (missing b n) (Perform t) (drain_after t b [])))
 
-  -- written in two parts: the actions performed, and the drain
-  module _ (at : ℕ) (out : List Item) (room : at + length (performed t b n) ≤ length out) where
-    first : Leads at out (performed t b n) at out (performs ++ drains t b)
-    first =
-        subst (Leads at out (performed t b n) at out) (again-front (missing b n) (Perform t) (drain_after t b []))
-        (record { list = refl; ends = refl; long = refl })
-
-    pub performs-room : at + missing b n ≤ length out
-    performs-room =
-        let r = leads-room at out (performed t b n) at out performs (drains t b) room first in
-        omega (arith, length-replicate (missing b n) (run_encoded (Perform t)))
-
-    pub after-performs : (at' : ℕ) (out' : List Item) → out' ≡ put at performs out → at' ≡ at + missing b n
-        → Leads at out (performed t b n) at' out' (drains t b)
-    after-performs at' out' e q =
-        leads-more at out (performed t b n) at out performs (drains t b) room first at' out' e
-        (omega (arith, length-replicate (missing b n) (run_encoded (Perform t))))
+  -- in two parts: the actions performed, and the drain
+  pub performed-parts : (due : ℕ) (item : Item) (rest : List Item) → due ≡ missing b n → item ≡ run_encoded (Perform t) → rest ≡ drains t b
+      → performed t b n ≡ replicate due item ++ rest
+  performed-parts due item rest d i r =
+      again-front (missing b n) (Perform t) (drain_after t b []) ∙ (λ k. replicate (sym d k) (sym i k) ++ sym r k)
 
 -- ── One item ──
 module _ (js : List CertificateItem) (next : ℕ → ℕ) where
@@ -107,14 +97,10 @@ item-replayed x js next s k e = go (certificate_item x) e
     go (Some (Move t p c)) e' = move-replayed (certificate_items js) next (certificate_taken s (Move t p c) e')
     go (Some (Come t)) e' = come-replayed (certificate_items js) next (certificate_taken s (Come t) e')
 
--- nothing is written where nothing comes
-pub idle : (left : ℕ → List Action) (next : ℕ → ℕ) (x : Item) (at : ℕ) (out : List Item) (o : Option CertificateItem) → o ≡ certificate_item x
-    → item_replay left next o ≡ [] → item_next left next o ≡ next
-    → (out ≡ put at (item_replay left next (certificate_item x)) out) × (at ≡ at + length (item_replay left next (certificate_item x)))
-    × (next ≡ item_next left next (certificate_item x))
-idle left next x at out o e none still =
-    let nil : item_replay left next (certificate_item x) ≡ [] = ap (item_replay left next) (sym e) ∙ none in
-    (sym (ap (λ l. put at l out) nil ∙ put-nil at out), omega (arith, ap length nil), sym (ap (item_next left next) (sym e) ∙ still))
+-- an item that is read says what is read
+pub said-is : {I E : Type 0} (o : Option I) (e : E) (i : I) → Ok i ≡ ok_or o e → Some i ≡ o
+said-is None e i q = cc
+said-is (Some j) e i q = let k : i ≡ j = cc in ap (λ (l : _). Some l) k
 
 -- where the action b comes, by a table of the names
 module _ (left : ℕ → List Action) (table : List ℕ) (x : Item) (t : ℕ) (b : Action)
@@ -156,23 +142,23 @@ nexts-first = fun_ext first_at
     first_at (suc (suc (suc (suc (suc (suc (suc (suc t)))))))) = refl
 
 -- with the checker in the state s after k items
-pub record Replaying (c : Case) (js entry : List Item) (s : OrderState) (k : ℕ) (next : ℕ → ℕ) (at : ℕ) (out : List Item) : Type 0 where
-  pub leads : Leads 0 entry (replayed c js) at out (map run_encoded (replay_from (certificate_items (drop k js)) s.left next))
+pub record Replaying (c : Case) (js : List Item) (first : Sheet) (s : OrderState) (k : ℕ) (next : ℕ → ℕ) (now : Sheet) : Type 0 where
+  pub leads : Leads first (replayed c js) now (map run_encoded (replay_from (certificate_items (drop k js)) s.left next))
   pub completed : Ends certificate_step (λ z. spent 8 z.left) (Ok s) (drop k js)
 
 module _ (c : Case) (js : List Item) where
-  pub replaying_none : (out : List Item) (s : OrderState) (next : ℕ → ℕ) → completes (certificate_machine c) js ≡ true → s ≡ fresh_order c
-      → next ≡ (λ t. named t 0) → Replaying c js out s 0 next 0 out
-  replaying_none out s next e q n =
-      let whole : map run_encoded (replay_from (certificate_items js) s.left next) ≡ replayed c js =
-      λ i. map run_encoded (replay_from (certificate_items js) (q i).left (n i)) in
+  pub replaying_none : (first : Sheet) (s : OrderState) (next : ℕ → ℕ) → completes (certificate_machine c) js ≡ true → s ≡ fresh_order c
+      → next ≡ (λ t. named t 0) → Replaying c js first s 0 next first
+  replaying_none first s next e q n =
       record {
-        leads = record { list = ap (λ l. put 0 l out) whole; ends = ap (λ l. 0 + length l) whole; long = refl };
+        leads =
+            leads-same first (replayed c js) first (λ i. map run_encoded (replay_from (certificate_items js) (sym q i).left (sym n i)))
+            (leads-start first (replayed c js));
         completed = subst (λ z. Ends certificate_step (λ z. spent 8 z.left) (Ok z) js) (sym q) (ends (certificate_machine c) js e);
       }
 
-  module _ (entry : List Item) (s : OrderState) (k : ℕ) (next : ℕ → ℕ) (at : ℕ) (out : List Item) (h : Replaying c js entry s k next at out) where
-    module _ (x : Item) (room : 0 + length (replayed c js) ≤ length entry) (l : k < length js) where
+  module _ (first : Sheet) (s : OrderState) (k : ℕ) (next : ℕ → ℕ) (now : Sheet) (h : Replaying c js first s k next now) where
+    module _ (x : Item) (room : Room (replayed c js) first) (l : k < length js) where
       abbrev written : List Item
       written = item_replay s.left next (certificate_item (get_or js k x))
 
@@ -181,38 +167,41 @@ module _ (c : Case) (js : List Item) where
           stepped certificate_step (get_or js k x) (drop (k + 1) js) s h.completed.last
           (ap (feed certificate_step (Ok s)) (sym (drop_more js k x l)) ∙ h.completed.taken)
 
-      leads_on : Leads 0 entry (replayed c js) at out
+      leads_on : Leads first (replayed c js) now
           (written ++ map run_encoded (replay_from (certificate_items (drop (k + 1) js)) onward.next.left (item_next s.left next (certificate_item (get_or js k x)))))
       leads_on =
-          subst (Leads 0 entry (replayed c js) at out)
+          leads-same first (replayed c js) now
           (ap (λ is. map run_encoded (replay_from (certificate_items is) s.left next)) (drop_more js k x l)
           ∙ item-replayed (get_or js k x) (drop (k + 1) js) next s onward.next onward.steps)
           h.leads
 
-      pub replaying_room : at + length written ≤ length out
-      replaying_room = leads-room 0 entry (replayed c js) at out written _ room leads_on
+      pub replaying_room : Room written now
+      replaying_room = leads-room first (replayed c js) now written _ room leads_on
 
-      pub replaying_more : (s' : OrderState) (next' : ℕ → ℕ) (at' : ℕ) (out' : List Item)
-          → out' ≡ put at written out → at' ≡ at + length written → next' ≡ item_next s.left next (certificate_item (get_or js k x))
-          → s' ≡ moved s (certificate_step s (get_or js k x)) → Replaying c js entry s' (k + 1) next' at' out'
-      replaying_more s' next' at' out' eo ea en es =
+      pub replaying_more : (s' : OrderState) (next' : ℕ → ℕ) (now' : Sheet)
+          → Adds written now now' → next' ≡ item_next s.left next (certificate_item (get_or js k x))
+          → s' ≡ moved s (certificate_step s (get_or js k x)) → Replaying c js first s' (k + 1) next' now'
+      replaying_more s' next' now' a en es =
           let after : s' ≡ onward.next = es ∙ ap (moved s) onward.steps in
           record {
             leads =
-                subst (Leads 0 entry (replayed c js) at' out')
+                leads-same first (replayed c js) now'
                 (sym (λ i. map run_encoded (replay_from (certificate_items (drop (k + 1) js)) (after i).left (en i))))
-                (leads-more 0 entry (replayed c js) at out written _ room leads_on at' out' eo ea);
+                (leads-more first (replayed c js) now written _ room leads_on now' a);
             completed =
                 subst (λ z. Ends certificate_step (λ z. spent 8 z.left) (Ok z) (drop (k + 1) js)) (sym after)
                 (record { last = h.completed.last; taken = onward.onward; complete = h.completed.complete });
           }
 
-    pub replaying_all : length js ≤ k → (out ≡ put 0 (replayed c js) entry) × (at ≡ length (replayed c js))
+    pub replaying_all : length js ≤ k → Adds (replayed c js) first now
     replaying_all l =
-        let e = leads-all 0 entry (replayed c js) at out
-        (subst (λ is. Leads 0 entry (replayed c js) at out (map run_encoded (replay_from (certificate_items is) s.left next))) (drop_all k js l) h.leads) in
-        (e.0, let n = e.1 in omega arith)
+        leads-all first (replayed c js) now
+        (leads-same first (replayed c js) now (ap (λ is. map run_encoded (replay_from (certificate_items is) s.left next)) (drop_all k js l)) h.leads)
 
 -- there is room for every run
-pub replayed-few : (k : CheckedCase) (js : List Item) → completes (certificate_machine (threads k)) js ≡ true → length (replayed (threads k) js) ≤ 512
-replayed-few k js e = to_run_lem.run_few (records_of k) js (sized k) e
+module _ (k : CheckedCase) (js : List Item) (complete : completes (certificate_machine (threads k)) js ≡ true) where
+  pub replayed-few : length (replayed (threads k) js) ≤ 512
+  replayed-few = to_run_lem.run_few (records_of k) js (sized k) complete
+
+  pub replayed-fits : (out : List Item) (s : Sheet) → 512 ≤ length out → s.items.now ≡ out → s.at ≡ 0 → Room (replayed (threads k) js) s
+  replayed-fits out s l e z = let f = replayed-few in let n = ap length e in omega arith

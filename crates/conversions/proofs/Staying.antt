@@ -1,16 +1,15 @@
 -- Hosts from the newest on: where a read stays, how many actions wait, and the moves past the newer hosts.
-use Rattle.std.proofs.Common.{◌≡◌, ℕ, zero, suc, ◌+◌, ◌-◌, ◌<◌, ◌≤◌, Bool, true, false, cond, eqb, List, [], ◌∷◌, ◌++◌, length, get_or, take, drop, set, sym, refl, ap, ◌∙◌, arith}
+use Rattle.std.proofs.Common.{◌≡◌, ℕ, zero, suc, ◌+◌, ◌-◌, ◌<◌, ◌≤◌, Bool, true, false, cond, eqb, List, [], ◌∷◌, ◌++◌, map, sum, length, get_or, take, drop, set, sym, refl, ap, ◌∙◌, arith}
 use lib.Seq.{take-set-lt}
 use Rattle.std.specs.List.{between}
-use Rattle.std.proofs.lemmas.List.{length-append, take_more, take_rest, length-take-le, drop-set-add, take-append-drop}
+use Rattle.std.proofs.lemmas.List.{length-append, take_rest, drop-set-add, take-append-drop}
 use Rattle.std.proofs.lemmas.List.Edits.{get_or-between}
+use Rattle.std.proofs.lemmas.List.Sums.{sum_by-cons}
 use Rattle.std.proofs.lemmas.Bool.{cond-true, cond-false, eq-eqb, ne_eqb}
 use Rattle.records.specs.declared.Item.{Item}
-use Rattle.records.specs.declared.action.Action.{Action}
-use Rattle.records.specs.declared.action.Action.TheVariants.{Read, Write, Sync}
 use Rattle.conversions.specs.declared.hosts.Host.{Host}
 use Rattle.conversions.specs.Hosts.{new_host, width, behind, stay, raised, joins_at}
-use Rattle.conversions.specs.Along.{Own, unhosted, move_of, passes, moves_of}
+use Rattle.conversions.specs.Along.{unhosted, move_of, passes}
 
 -- ── Where a read stays ──
 stay_push : (x : ℕ) (hs : List Host) (h : Host) → stay x (hs ++ h ∷ []) ≡ cond (eqb x h.location) (suc (length hs)) (stay x hs)
@@ -32,30 +31,27 @@ stay-within x (h ∷ hs) = go (stay x hs) (eqb x h.location) (stay-within x hs)
     go zero false l = omega arith
     go (suc n) b l = omega arith
 
--- the n + 1 oldest of the hosts, of which the newest is to x or not
-module _ (x : ℕ) (hs : List Host) (n : ℕ) (within : n < length hs) (d : Host) where
-  front_push : stay x (take (n + 1) hs) ≡ cond (eqb x (get_or hs n d).location) (suc (length (take n hs))) (stay x (take n hs))
-  front_push = ap (stay x) (take_more hs n d within) ∙ stay_push x (take n hs) (get_or hs n d)
+-- the newest of the hosts is to x or not
+module _ (x : ℕ) (older : List Host) (h : Host) where
+  pub stays_here : h.location ≡ x → stay x (older ++ h ∷ []) ≡ suc (length older)
+  stays_here e = stay_push x older h ∙ cond-true _ _ _ (eq-eqb _ _ (sym e))
 
-  pub stays_here : (get_or hs n d).location ≡ x → stay x (take (n + 1) hs) ≡ n + 1
-  stays_here e =
-      front_push ∙ cond-true _ _ _ (eq-eqb _ _ (sym e))
-      ∙ (let l = length-take-le n hs (omega arith) in omega arith)
-
-  pub stays_older : ((get_or hs n d).location ≡ x → ⊥) → stay x (take (n + 1) hs) ≡ stay x (take n hs)
-  stays_older ne = front_push ∙ cond-false _ _ _ (ne_eqb _ _ (λ e. ne (sym e)))
+  pub stays_older : (h.location ≡ x → ⊥) → stay x (older ++ h ∷ []) ≡ stay x older
+  stays_older ne = stay_push x older h ∙ cond-false _ _ _ (ne_eqb _ _ (λ e. ne (sym e)))
 
 -- ── How many actions wait ──
+pub width-sum : (hs : List Host) → sum (map (λ (h : Host). h.joined + 1) hs) ≡ width hs
+width-sum [] = refl
+width-sum (h ∷ hs) =
+    let w = width-sum hs in
+    sum_by-cons (λ n. n) (h.joined + 1) (map (λ (g : Host). g.joined + 1) hs) ∙ omega arith
+
 pub width-append : (xs ys : List Host) → width (xs ++ ys) ≡ width xs + width ys
 width-append [] ys = omega arith
 width-append (h ∷ xs) ys = let a = width-append xs ys in omega arith
 
 pub width-drop : (n : ℕ) (hs : List Host) → width (take n hs) + width (drop n hs) ≡ width hs
 width-drop n hs = sym (width-append (take n hs) (drop n hs)) ∙ ap width (take-append-drop n hs)
-
-pub width-front : (hs : List Host) (n : ℕ) (d : Host) → n < length hs
-    → width (take (n + 1) hs) ≡ width (take n hs) + ((get_or hs n d).joined + 1)
-width-front hs n d l = ap width (take_more hs n d l) ∙ width-append (take n hs) (get_or hs n d ∷ []) ∙ omega arith
 
 width-raised : (n : ℕ) (hs : List Host) (d : Host) → n < length hs → width (set hs n (raised (get_or hs n d))) ≡ suc (width hs)
 width-raised n [] d l = absurd (omega arith)
@@ -92,7 +88,7 @@ pub passed-are : (ws hs : List Host) (x n : ℕ) → ws ≡ hs → n ≡ stay x 
 passed-are ws hs x n e q = let k = q ∙ ap (stay x) e in take_rest ws n ∙ (λ i. drop (k i) (e i))
 
 -- ── The moves past hosts ──
-passes_push : (t b : ℕ) (hs : List Host) (h : Host) → passes t b (hs ++ h ∷ []) ≡ move_of t (b + width hs) h.joined ∷ passes t b hs
+pub passes_push : (t b : ℕ) (hs : List Host) (h : Host) → passes t b (hs ++ h ∷ []) ≡ move_of t (b + width hs) h.joined ∷ passes t b hs
 passes_push t b [] h = let z : b ≡ b + 0 = omega arith in ap {B = List Item} (λ p. move_of t p h.joined ∷ []) z
 passes_push t b (g ∷ hs) h =
     let e : b + suc g.joined + width hs ≡ b + suc (g.joined + width hs) = omega arith in
@@ -104,13 +100,3 @@ length-passes t b [] = refl
 length-passes t b (h ∷ hs) =
     let a = length-passes t (b + suc h.joined) hs in
     length-append (passes t (b + suc h.joined) hs) (move_of t b h.joined ∷ []) ∙ omega arith
-
-pub passes-front : (t b : ℕ) (hs : List Host) (n : ℕ) (d : Host) → n < length hs
-    → passes t b (take (n + 1) hs) ≡ move_of t (b + width (take n hs)) (get_or hs n d).joined ∷ passes t b (take n hs)
-passes-front t b hs n d l = ap (passes t b) (take_more hs n d l) ∙ passes_push t b (take n hs) (get_or hs n d)
-
--- only a read passes anything
-pub no_moves : (t : ℕ) (a : Action) (o : Own) → ((n x s : ℕ) → a ≡ Read n x s → ⊥) → moves_of t a o ≡ []
-no_moves t (Read n x s) o not = absurd (not n x s refl)
-no_moves t (Write n x) o not = refl
-no_moves t (Sync n k p) o not = refl

@@ -1,20 +1,23 @@
 -- What is written along a complete run is the list by moments.
-use Rattle.std.proofs.Common.{◌≡◌, ℕ, zero, suc, ◌+◌, true, List, [], ◌∷◌, ◌++◌, map, length, sym, refl, ap, ◌∙◌, ap₂, arith}
+use Rattle.std.proofs.Common.{◌≡◌, ℕ, zero, suc, ◌+◌, ◌≤◌, List, [], ◌∷◌, ◌++◌, map, length, sym, refl, ap, ◌∙◌, ap₂, arith}
 use Rattle.std.proofs.lemmas.List.{append_assoc, length-append, length-map}
 use Rattle.records.specs.declared.Item.{Item}
 use Rattle.records.specs.declared.Record.{Record}
 use Rattle.records.specs.Names.{Case, thread, threads_of}
+use Rattle.case.specs.Cases.{records_of, threads}
+use Rattle.case.specs.declared.checked.CheckedCase.{CheckedCase}
 use Rattle.machines.specs.declared.items.CertificateItem.{CertificateItem}
-use Rattle.form.specs.Form.{in_form}
-use Rattle.form.proofs.Laws.{lawful}
 use Rattle.agreement.specs.Convert.{Mark, mark, Plan, plan, comings, move_items, all_moves, move_count}
 use Rattle.agreement.specs.Moments.{by_moments}
 use Rattle.machines.specs.Encoded.{certificate_encoded}
 use Rattle.agreement.specs.Evidence.{run_items, certificate_items, written}
-use Rattle.agreement.specs.Agreement.{Sized, CompleteRun}
+use Rattle.agreement.specs.Agreement.{CompleteRun}
 use Rattle.agreement.proofs.Encoding.{certificate-back}
-use Rattle.agreement.proofs.Theorems.{by_moments_lem}
+use Rattle.agreement.proofs.Theorems.{by_moments_lem, to_certificate_lem}
+use Rattle.kinds.specs.Duties.{sized}
+use Rattle.conversions.specs.declared.sheet.Sheet.{Sheet}
 use Rattle.conversions.specs.Along.{start, moves_along, moves_from, order_along}
+use Rattle.conversions.specs.Sheets.{Room}
 use Rattle.conversions.proofs.Hosted.{move_item, as_moves}
 use Rattle.conversions.proofs.OwnMoves.{moves-along}
 use Rattle.conversions.proofs.OneOrder.{as_comes, order-along}
@@ -75,7 +78,19 @@ module _ (xs : List Record) (is : List Item) (complete : CompleteRun xs is) wher
       ap move_count (certificate-back (by_moments c (run_items is)) ∙ sym (by_moments_lem.emits_it xs is complete))
       ∙ all-counted c is 8 0 (planned c is).order
 
-pub sized : (xs : List Record) → in_form xs ≡ true → Sized xs
-sized xs formed =
-    let h = lawful xs formed in
-    record { few = h.few; thread_few = h.thread_few; thread_small = h.thread_small }
+-- ── There is room for every certificate ──
+module _ (k : CheckedCase) (is : List Item) (complete : CompleteRun (records_of k) is) where
+  abbrev pub moves : List Item
+  moves = moves_from (threads k) is 8 0
+
+  abbrev pub order : List Item
+  order = order_along (threads k) is (λ _. start)
+
+  pub written-few : length moves + length order ≤ 4352
+  written-few =
+      let l = ap length (written-along (records_of k) is complete) in
+      let f = to_certificate_lem.items_few (records_of k) is (sized k) complete in
+      omega (arith, length-append moves order)
+
+  pub written-fits : (out : List Item) (s : Sheet) → 4352 ≤ length out → s.items.now ≡ out → s.at ≡ 0 → Room (moves ++ order) s
+  written-fits out s l e z = let f = written-few in let n = ap length e in omega (arith, length-append moves order)

@@ -6,14 +6,21 @@ use Rattle.machines.specs.Machine.{Machine, completes, refusal_of}
 use Rattle.conversions.specs.declared.fault.ConversionFault.{ConversionFault}
 use Rattle.conversions.specs.declared.fault.ConversionFault.TheVariants.{ListTooShort, Refused, Unfinished}
 
-abbrev pub told : ConversionFault → Refusal
-told ListTooShort = record { number = 61; place = 0 }
-told (Refused n k) = record { number = n; place = k }
-told Unfinished = record { number = 62; place = 0 }
+abbrev pub too_short : Refusal
+too_short = record { number = 61; place = 0 }
 
-abbrev pub refusal_in : {T : Type 0} → Result T ConversionFault → Option Refusal
-refusal_in (Ok x) = None
-refusal_in (Err f) = Some (told f)
+abbrev pub not_complete : Refusal
+not_complete = record { number = 62; place = 0 }
+
+-- where the checker's own faults have these numbers
+abbrev pub told : {F : Type 0} → (F → ℕ) → ConversionFault F → Refusal
+told number ListTooShort = too_short
+told number (Refused f k) = record { number = number f; place = k }
+told number Unfinished = not_complete
+
+abbrev pub refusal_in : {T F : Type 0} → (F → ℕ) → Result T (ConversionFault F) → Option Refusal
+refusal_in number (Ok x) = None
+refusal_in number (Err f) = Some (told number f)
 
 -- ── Which fault ──
 abbrev pub or_else : Option Refusal → Option Refusal → Option Refusal
@@ -22,7 +29,7 @@ or_else (Some r) next = Some r
 
 abbrev pub unfinished : Bool → Option Refusal
 unfinished true = None
-unfinished false = Some (told Unfinished)
+unfinished false = Some not_complete
 
 -- the first item that the machine refuses, or that the evidence is not complete
 abbrev pub examined : {S : Type 0} → Machine S → List Item → Option Refusal
@@ -30,4 +37,4 @@ examined m is = or_else (refusal_of m is) (unfinished (completes m is))
 
 -- of evidence that is to be converted, where so much room is asked for and the list to write has this size
 abbrev pub conversion_refusal : {S : Type 0} → Machine S → ℕ → ℕ → List Item → Option Refusal
-conversion_refusal m room size is = cond (nat_lt size room) (Some (told ListTooShort)) (examined m is)
+conversion_refusal m room size is = cond (nat_lt size room) (Some too_short) (examined m is)

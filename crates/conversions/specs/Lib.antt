@@ -1,5 +1,6 @@
 pub mod Faults
 pub mod Fronts
+pub mod Sheets
 pub mod Hosts
 pub mod Along
 pub mod Rows

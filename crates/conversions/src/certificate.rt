@@ -2,18 +2,21 @@
 ghost use Rattle.std.specs.Prelude.{◌≡◌, ◌≤◌, true, ◌++◌, length, drop, IfOk, MatchResult, OnOk};
 ghost use Rattle.case.specs.Cases.{records_of, threads};
 ghost use Rattle.machines.specs.Certificate.{certificate_machine};
+ghost use Rattle.machines.specs.Faults.{run_number};
 ghost use Rattle.machines.specs.Machine.{completes};
 ghost use Rattle.machines.specs.Run.{run_machine};
 ghost use Rattle.agreement.specs.Convert.{move_count};
 ghost use Rattle.agreement.specs.Evidence.{certificate_items, written};
 ghost use Rattle.conversions.specs.Counts.{Counted};
-ghost use Rattle.conversions.specs.Faults.{refusal_in, examined, conversion_refusal};
+ghost use Rattle.conversions.specs.Faults.{refusal_in, conversion_refusal};
 ghost use Rattle.conversions.specs.Fronts.{put};
 
 use crate::examine::examine;
 use crate::fault::ConversionFault;
+use crate::sheet::Sheet;
 use crate::{moves, order};
 use case::checked::CheckedCase;
+use machines::faults::RunFault;
 use machines::rows::Run;
 use records::Item;
 
@@ -28,26 +31,19 @@ pub struct Written {
 pub(crate) fn write_certificate(case: &CheckedCase, run: &[Item], out: &mut [Item]) -> Written
     requires complete { completes (run_machine (threads case.now)) run.now ≡ true }
     requires room { 4352 ≤ length out.old }
-    ensures list { out.new ≡ written (threads case.now) run.now ++ drop (length (written (threads case.now) run.now)) out.old }
+    ensures list { out.new ≡ put 0 (written (threads case.now) run.now) out.old }
     ensures items { result.items ≡ length (written (threads case.now) run.now) }
     ensures moves { result.moves ≡ move_count (certificate_items (written (threads case.now) run.now)) }
 {
-    let moves = moves::write_moves(case, run, out);
-    let items = order::write_order(case, run, out, moves);
+    let mut sheet = Sheet::new(out);
+    moves::write_moves(case, run, &mut sheet);
+    let moves = sheet.len();
+    order::write_order(case, run, &mut sheet);
+    let items = sheet.len();
     Written {
         items: items as u16,
         moves: moves as u16,
     }
-}
-
-// Refuses a run that is not complete. A function of its own, so that the checker's rows are gone before the converter's
-// rows are made.
-fn examine_run(case: &CheckedCase, run: &[Item]) -> Result<(), ConversionFault>
-    ensures refusal { refusal_in result ≡ examined (run_machine (threads case.now)) run.now }
-    ensures complete { OnOk result (completes (run_machine (threads case.now)) run.now ≡ true) }
-{
-    let mut checker = Run::new();
-    examine(&mut checker, case, run)
 }
 
 // As many items as a certificate can have.
@@ -59,8 +55,8 @@ pub fn to_certificate(
     case: &CheckedCase,
     run: &[Item],
     out: &mut [Item],
-) -> Result<Written, ConversionFault>
-    ensures refusal { refusal_in result ≡ conversion_refusal (run_machine (threads case.now)) 4352 (length out.old) run.now }
+) -> Result<Written, ConversionFault<RunFault>>
+    ensures refusal { refusal_in run_number result ≡ conversion_refusal (run_machine (threads case.now)) 4352 (length out.old) run.now }
     ensures list { MatchResult result (λ _. out.new ≡ put 0 (written (threads case.now) run.now) out.old) (λ _. out.new ≡ out.old) }
     ensures size { length out.new ≡ length out.old }
     ensures counts { IfOk result (λ n. Counted (threads case.now) run.now (length (records_of case.now)) n.items n.moves) }
@@ -69,6 +65,6 @@ pub fn to_certificate(
     if out.len() < ROOM {
         return Err(ConversionFault::ListTooShort);
     }
-    examine_run(case, run)?;
+    examine(Run::new, case, run)?;
     Ok(write_certificate(case, run, out))
 }

@@ -8,19 +8,22 @@ use case::checked::CheckedCase;
 use kinds::Evidence;
 use records::Item;
 
-// Refuses evidence that the checker refuses or that it does not find complete.
-pub(crate) fn examine<K: Evidence>(
-    checker: &mut K,
+// Refuses evidence that the checker refuses or that it does not find complete. The checker is made here and not by the
+// caller, so that its table is gone before the converter makes its own.
+pub(crate) fn examine<K: Evidence + Drop, F: FnOnce() -> K>(
+    new: F,
     case: &CheckedCase,
     evidence: &[Item],
-) -> Result<(), ConversionFault>
-    ensures refusal { refusal_in result ≡ examined (K.machine case.now) evidence.now }
+) -> Result<(), ConversionFault<K::Fault>>
+    requires { F.IsAlwaysCallable new }
+    ensures refusal { refusal_in K.Fault.number result ≡ examined (K.machine case.now) evidence.now }
     ensures complete { OnOk result (completes (K.machine case.now) evidence.now ≡ true) }
 {
+    let mut checker = new();
     checker.begin(case);
     for (place, item) in evidence.iter().enumerate() {
-        if let Err(number) = checker.put(case, *item) {
-            return Err(ConversionFault::Refused { number, place });
+        if let Err(fault) = checker.put(case, *item) {
+            return Err(ConversionFault::Refused { fault, place });
         }
     }
     if !checker.finished(case) {

@@ -13,12 +13,10 @@ pub(crate) struct Host {
 pub(crate) fn stay_at(hosts: &[Host], location: u8) -> usize
     ensures { result ≡ stay location hosts.now }
 {
-    let mut n = hosts.len();
-    while n > 0 {
-        if hosts[n - 1].location == location {
-            return n;
+    for (older, host) in hosts.iter().enumerate().rev() {
+        if host.location == location {
+            return older + 1;
         }
-        n -= 1;
     }
     0
 }

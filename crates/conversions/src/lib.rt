@@ -2,7 +2,8 @@
 //
 // A converter takes a case in form and evidence for it. It first holds the evidence to the checker of its own kind
 // (`examine`), and answers with the checker's refusal if there is one (`ConversionFault`); then the list is untouched. What
-// is written is said by the crate agreement, whose theorems make it complete evidence of the other kind.
+// is written is said by the crate agreement, whose theorems make it complete evidence of the other kind. The functions that
+// write pass on the list as a `Sheet`, which knows how far it is written.
 //
 // A complete run becomes a certificate (`to_certificate`): first the moves, thread by thread, and then one order of all
 // actions. The list is said by moments (`written` of agreement's specs/Evidence); specs/Along has the same list as it is
@@ -22,4 +23,4 @@ mod moves;
 mod order;
 pub mod replay;
 mod rows;
-mod waiting;
+mod sheet;

@@ -1,139 +1,87 @@
 // The moves of a certificate, thread by thread.
-ghost use Rattle.std.specs.Prelude.{◌≡◌, ◌+◌, ◌≤◌, length};
+ghost use Rattle.std.specs.Prelude.{◌≡◌, ◌≤◌};
 ghost use Rattle.std.specs.List.{slice_get};
 ghost use Rattle.records.specs.Names.{thread as thread_of};
 ghost use Rattle.machines.specs.Items.{run_item};
 ghost use Rattle.case.specs.Cases.{threads};
-ghost use Rattle.conversions.specs.Fronts.{put};
 ghost use Rattle.conversions.specs.Hosts.{width};
-ghost use Rattle.conversions.specs.Along.{start, moves_before, moves_of, performed_next, moves_next, step_own, step_moves, moves_along, moves_from};
+ghost use Rattle.conversions.specs.Along.{start, moves_before, moves_next, step_own, step_moves, moves_along, moves_from};
 ghost use Rattle.conversions.specs.Rows.{own_of};
+ghost use Rattle.conversions.specs.Sheets.{Adds, Room};
 
 use crate::hosts;
 use crate::hosts::Host;
 use crate::rows::Row;
+use crate::sheet::Sheet;
 use case::checked::CheckedCase;
-use machines::items::RunItem;
+use machines::items::{CertificateItem, RunItem};
 use records::Item;
 use records::action::Action;
 
 // A read at a place passes these hosts, which are the newest of its thread: one move each, the newest first.
-fn pass(thread: u8, place: u8, passed: &[Host], out: &mut [Item], mut at: usize) -> usize
+fn pass(thread: u8, place: u8, passed: &[Host], sheet: &mut Sheet)
     requires before { width passed.now ≤ place }
-    requires room { at + length passed.now ≤ length out.old }
-    ensures list { out.new ≡ put at (moves_before thread place passed.now) out.old }
-    ensures upto { result ≡ at + length passed.now }
+    requires room { Room (moves_before thread place passed.now) sheet.old }
+    ensures list { Adds (moves_before thread place passed.now) sheet.old sheet.new }
 {
     let mut before = place;
-    let mut n = passed.len();
-    while n > 0 {
-        n -= 1;
-        let count = passed[n].joined;
-        before -= count + 1;
-        out[at] = Item {
-            letter: b'M',
+    for host in passed.iter().rev() {
+        before -= host.joined + 1;
+        sheet.push(Item::from(CertificateItem::Move {
             thread,
             place: before,
-            count,
-        };
-        at += 1;
+            count: host.joined,
+        }));
     }
-    at
 }
 
-// The moves of the next action: a read passes the hosts that are newer than the one it stays at.
-fn moves_of_action(row: &Row, action: Action, thread: u8, out: &mut [Item], at: usize) -> usize
-    requires room { at + length (moves_of thread action (own_of row.now)) ≤ length out.old }
-    ensures list { out.new ≡ put at (moves_of thread action (own_of row.now)) out.old }
-    ensures upto { result ≡ at + length (moves_of thread action (own_of row.now)) }
+// The moves of the thread's next action, if it has one: a read passes the hosts that are newer than the one it stays at.
+fn moves_of_next(case: &CheckedCase, thread: u8, row: &Row, sheet: &mut Sheet)
+    requires room { Room (moves_next thread (slice_get (thread_of (threads case.now) thread) row.now.next) (own_of row.now)) sheet.old }
+    ensures list { Adds (moves_next thread (slice_get (thread_of (threads case.now) thread) row.now.next) (own_of row.now)) sheet.old sheet.new }
 {
-    let Action::Read { location, .. } = action else {
-        return at;
-    };
-    let waiting = row.waiting();
-    let stay = hosts::stay_at(waiting, location);
-    pass(thread, row.next, &waiting[stay..], out, at)
-}
-
-// The thread performs its next action, if it has one, with the moves of that action.
-fn perform(case: &CheckedCase, thread: u8, row: &mut Row, out: &mut [Item], at: usize) -> usize
-    requires room { at + length (moves_next thread (slice_get (thread_of (threads case.now) thread) row.old.next) (own_of row.old)) ≤ length out.old }
-    ensures after { own_of row.new ≡ performed_next (slice_get (thread_of (threads case.now) thread) row.old.next) (own_of row.old) }
-    ensures list { out.new ≡ put at (moves_next thread (slice_get (thread_of (threads case.now) thread) row.old.next) (own_of row.old)) out.old }
-    ensures upto { result ≡ at + length (moves_next thread (slice_get (thread_of (threads case.now) thread) row.old.next) (own_of row.old)) }
-{
-    match case.action(thread, row.next) {
-        Some(action) => {
-            let upto = moves_of_action(row, action, thread, out, at);
-            row.perform(action);
-            upto
-        }
-        None => at,
+    if let Some(Action::Read { location, .. }) = case.action(thread, row.next) {
+        let waiting = row.waiting();
+        let stay = hosts::stay_at(waiting, location);
+        pass(thread, row.next, &waiting[stay..], sheet);
     }
 }
 
 // The moves that an item adds to those of a thread.
-fn moves_of_item(
-    case: &CheckedCase,
-    item: Item,
-    thread: u8,
-    row: &mut Row,
-    out: &mut [Item],
-    at: usize,
-) -> usize
-    requires room { at + length (step_moves (thread_of (threads case.now) thread) thread (run_item item) (own_of row.old)) ≤ length out.old }
+fn moves_of_item(case: &CheckedCase, item: Item, thread: u8, row: &mut Row, sheet: &mut Sheet)
+    requires room { Room (step_moves (thread_of (threads case.now) thread) thread (run_item item) (own_of row.old)) sheet.old }
     ensures after { own_of row.new ≡ step_own (thread_of (threads case.now) thread) thread (run_item item) (own_of row.old) }
-    ensures list { out.new ≡ put at (step_moves (thread_of (threads case.now) thread) thread (run_item item) (own_of row.old)) out.old }
-    ensures upto { result ≡ at + length (step_moves (thread_of (threads case.now) thread) thread (run_item item) (own_of row.old)) }
+    ensures list { Adds (step_moves (thread_of (threads case.now) thread) thread (run_item item) (own_of row.old)) sheet.old sheet.new }
 {
-    let Some(step) = RunItem::of(item) else {
-        return at;
-    };
-    match step {
-        RunItem::Perform(performer) => {
-            if performer != thread {
-                return at;
-            }
-            perform(case, thread, row, out, at)
+    match RunItem::try_from(item) {
+        Ok(RunItem::Perform(performer)) if performer == thread => {
+            moves_of_next(case, thread, row, sheet);
+            row.perform_next(case, thread);
         }
-        RunItem::Drain(drainer) => {
-            if drainer != thread {
-                return at;
-            }
+        Ok(RunItem::Drain(drainer)) if drainer == thread => {
             row.leave();
-            at
         }
+        _ => {}
     }
 }
 
 // The moves of a thread, in program order of the reads that pass.
-fn moves_of_thread(
-    case: &CheckedCase,
-    run: &[Item],
-    thread: u8,
-    out: &mut [Item],
-    mut at: usize,
-) -> usize
-    requires room { at + length (moves_along (thread_of (threads case.now) thread) thread run.now start) ≤ length out.old }
-    ensures list { out.new ≡ put at (moves_along (thread_of (threads case.now) thread) thread run.now start) out.old }
-    ensures upto { result ≡ at + length (moves_along (thread_of (threads case.now) thread) thread run.now start) }
+fn moves_of_thread(case: &CheckedCase, run: &[Item], thread: u8, sheet: &mut Sheet)
+    requires room { Room (moves_along (thread_of (threads case.now) thread) thread run.now start) sheet.old }
+    ensures list { Adds (moves_along (thread_of (threads case.now) thread) thread run.now start) sheet.old sheet.new }
 {
     let mut row = Row::fresh();
     for item in run {
-        at = moves_of_item(case, *item, thread, &mut row, out, at);
+        moves_of_item(case, *item, thread, &mut row, sheet);
     }
-    at
 }
 
-// The moves of all threads, from the front of the list on. Answers how many there are.
-pub(crate) fn write_moves(case: &CheckedCase, run: &[Item], out: &mut [Item]) -> usize
-    requires room { length (moves_from (threads case.now) run.now 8 0) ≤ length out.old }
-    ensures list { out.new ≡ put 0 (moves_from (threads case.now) run.now 8 0) out.old }
-    ensures upto { result ≡ length (moves_from (threads case.now) run.now 8 0) }
+// The moves of all threads.
+pub(crate) fn write_moves(case: &CheckedCase, run: &[Item], sheet: &mut Sheet)
+    requires room { Room (moves_from (threads case.now) run.now 8 0) sheet.old }
+    ensures list { Adds (moves_from (threads case.now) run.now 8 0) sheet.old sheet.new }
 {
-    let mut at = 0;
     for thread in 0..8u8 {
-        at = moves_of_thread(case, run, thread, out, at);
+        moves_of_thread(case, run, thread, sheet);
     }
-    at
 }

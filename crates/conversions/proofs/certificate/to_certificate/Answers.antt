@@ -1,4 +1,4 @@
-use Rattle.std.proofs.Common.{◌++◌, length, drop, sym, ap, ◌∙◌, zero-add, arith}
+use Rattle.std.proofs.Common.{length, sym, ap, ◌∙◌, arith}
 use Rattle.std.proofs.lemmas.Bool.{cond-false, le-ltb}
 use Rattle.case.specs.Cases.{records_of, threads}
 use Rattle.agreement.specs.Evidence.{written}
@@ -13,16 +13,15 @@ returns c =
     let xs = records_of k in
     let is = c.args.run.now in
     let ws = written (threads k) is in
-    let h = c.in_ok-examine_run.ensures in
+    let h = c.in_ok-examine.ensures in
     let w = c.write_certificate.ensures in
     let few = to_certificate_lem.moves_few xs is (sized k) h.complete in
     let short = to_certificate_lem.items_few xs is (sized k) h.complete in
     let counted = to_certificate_lem.items_counted xs is (sized k) h.complete in
-    let list = w.list ∙ ap (λ n. ws ++ drop n c.args.out.now) (sym (zero-add (length ws))) in
     record {
       refusal = h.refusal ∙ sym (cond-false _ _ _ (le-ltb (length c.args.out.now) 4352 (omega arith)));
-      list = list;
-      size = ap length list ∙ length-put 0 ws c.args.out.now (omega arith);
+      list = w.list;
+      size = ap length w.list ∙ length-put 0 ws c.args.out.now (omega arith);
       counts = record {
         length_is = w.items;
         moves_are = w.moves;

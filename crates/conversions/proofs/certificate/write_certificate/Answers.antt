@@ -1,70 +1,50 @@
-use Rattle.std.proofs.Common.{◌≡◌, ◌+◌, ◌≤◌, List, ◌++◌, length, drop, sym, ap, ◌∙◌, arith, rules}
-use Rattle.std.proofs.lemmas.List.{length-append}
-use Rattle.records.specs.declared.Item.{Item}
-use Rattle.case.specs.declared.checked.CheckedCase.{CheckedCase}
-use Rattle.case.specs.Cases.{records_of, threads}
-use Rattle.agreement.specs.Agreement.{CompleteRun}
-use Rattle.agreement.specs.Evidence.{written}
-use Rattle.agreement.proofs.Theorems.{to_certificate_lem}
-use Rattle.conversions.specs.Fronts.{put}
-use Rattle.conversions.specs.Along.{start, moves_from, order_along}
-use Rattle.conversions.proofs.Fronts.{put_both}
-use Rattle.conversions.proofs.Whole.{sized, written-along, written-moves}
+use Rattle.std.proofs.Common.{◌≤◌, sym, subst, arith, rules}
+use Rattle.case.specs.Cases.{records_of}
+use Rattle.conversions.specs.Sheets.{Adds}
+use Rattle.conversions.proofs.Sheets.{room_front, room_behind, adds_both}
+use Rattle.conversions.proofs.Whole.{moves, order, written-along, written-moves, written-few, written-fits}
 use Rattle.conversions.proofs.certificate.write_certificate.Goals as goal
 
--- moves and order together are few
-module _ (case : CheckedCase) (run : List Item) (complete : CompleteRun (records_of case) run) where
-  both : length (written (threads case) run) ≡ length (moves_from (threads case) run 8 0) + length (order_along (threads case) run (λ _. start))
-  both = ap length (written-along (records_of case) run complete) ∙ length-append (moves_from (threads case) run 8 0) (order_along (threads case) run (λ _. start))
+pub write_moves-requires : goal.write_moves-requires
+write_moves-requires c =
+    let k = c.args.case.now in
+    let is = c.args.run.now in
+    let done = c.requires.complete in
+    let fits = written-fits k is done c.args.out.now c.new-sheet.result c.requires.room c.new-sheet.ensures.items c.new-sheet.ensures.at in
+    record { room = room_front (moves k is done) (order k is done) c.new-sheet.result fits }
 
-  few : length (moves_from (threads case) run 8 0) + length (order_along (threads case) run (λ _. start)) ≤ 4352
-  few = let b = both in let f = to_certificate_lem.items_few (records_of case) run (sized (records_of case) case.formed) complete in omega arith
-
-pub write_moves-moves-requires : goal.write_moves-moves-requires
-write_moves-moves-requires c =
-    let f = few c.args.case.now c.args.run.now c.requires.complete in
-    let r = c.requires.room in
-    record { room = omega arith }
-
-pub write_order-items-requires : goal.write_order-items-requires
-write_order-items-requires c =
-    let f = few c.args.case.now c.args.run.now c.requires.complete in
-    let r = c.requires.room in
-    let k = c.write_moves-moves.auto.out in
-    let m = c.write_moves-moves.ensures.upto in
-    record { room = omega arith }
+pub write_order-requires : goal.write_order-requires
+write_order-requires c =
+    let k = c.args.case.now in
+    let is = c.args.run.now in
+    let done = c.requires.complete in
+    let fits = written-fits k is done c.args.out.now c.new-sheet.result c.requires.room c.new-sheet.ensures.items c.new-sheet.ensures.at in
+    record { room = room_behind (moves k is done) (order k is done) c.new-sheet.result c.write_moves.new.sheet fits c.write_moves.ensures.list }
 
 pub overflow_cast-result : goal.overflow_cast-result
 overflow_cast-result c =
-    let f = few c.args.case.now c.args.run.now c.requires.complete in
-    let m = c.write_moves-moves.ensures.upto in
-    let o = c.write_order-items.ensures.upto in
-    let n : c.write_order-items.result ≤ 4352 = omega arith in
+    let few = written-few c.args.case.now c.args.run.now c.requires.complete in
+    let m = c.write_moves.ensures.list.upto in
+    let o = c.write_order.ensures.list.upto in
+    let n : c.len-items.result ≤ 4352 = omega arith in
     search rules
 
 pub overflow_cast-result-2 : goal.overflow_cast-result-2
 overflow_cast-result-2 c =
-    let f = few c.args.case.now c.args.run.now c.requires.complete in
-    let m = c.write_moves-moves.ensures.upto in
-    let n : c.write_moves-moves.result ≤ 4352 = omega arith in
+    let few = written-few c.args.case.now c.args.run.now c.requires.complete in
+    let m = c.write_moves.ensures.list.upto in
+    let n : c.len-moves.result ≤ 4352 = omega arith in
     search rules
 
 pub returns : goal.returns
 returns c =
-    let case = c.args.case.now in
-    let run = c.args.run.now in
-    let out = c.args.out.now in
-    let moves = moves_from (threads case) run 8 0 in
-    let order = order_along (threads case) run (λ _. start) in
-    let f = few case run c.requires.complete in
-    let b = both case run c.requires.complete in
-    let r = c.requires.room in
-    let m = c.write_moves-moves.ensures.upto in
-    let o = c.write_order-items.ensures.upto in
-    record {
-      list = c.write_order-items.ensures.list ∙ (λ i. put (m i) order (c.write_moves-moves.ensures.list i))
-          ∙ put_both moves order out (omega arith)
-          ∙ ap (λ w. w ++ drop (length w) out) (sym (written-along (records_of case) run c.requires.complete));
-      items = omega arith;
-      moves = m ∙ sym (written-moves (records_of case) run c.requires.complete);
-    }
+    let k = c.args.case.now in
+    let is = c.args.run.now in
+    let done = c.requires.complete in
+    let fits = written-fits k is done c.args.out.now c.new-sheet.result c.requires.room c.new-sheet.ensures.items c.new-sheet.ensures.at in
+    let whole = subst (λ l. Adds l c.new-sheet.result c.write_order.new.sheet) (sym (written-along (records_of k) is done))
+    (adds_both (moves k is done) (order k is done) c.new-sheet.result c.write_moves.new.sheet c.write_order.new.sheet fits
+    c.write_moves.ensures.list c.write_order.ensures.list) in
+    let m = c.write_moves.ensures.list.upto in
+    let n = whole.upto in
+    record { list = search rules; items = omega arith; moves = omega (arith, written-moves (records_of k) is done) }

@@ -17,7 +17,7 @@ loop-place-preserved g c =
 pub returns-in-Err : goal.returns-in-Err
 returns-in-Err g c =
     record {
-      refusal = examining_refused _ _ _ _ c.loop-place.invariant _ c.loop-place-test.true c.in-Err.number (sym c.in-Err.ensures.answer);
+      refusal = examining_refused _ _ _ _ c.loop-place.invariant _ c.loop-place-test.true _ (sym c.in-Err.ensures.answer);
       complete = tt;
     }
 

@@ -1,8 +1,5 @@
 use Rattle.conversions.proofs.Passes.{Left}
 use Rattle.conversions.proofs.moves.pass.Given as goal
 
-abbrev pub invariant-loop-n : goal.invariant-loop-n
-invariant-loop-n l = Left l.thread l.place l.passed l.initial.at l.initial.out l.n l.before l.at l.out
-
-abbrev pub decreases-loop-n : goal.decreases-loop-n
-decreases-loop-n l = l.n
+abbrev pub invariant-loop-host : goal.invariant-loop-host
+invariant-loop-host l = Left l.thread l.place l.passed l.initial.sheet l.host-iterator.iter.rest.now l.before l.sheet

@@ -9,7 +9,7 @@ use Rattle.conversions.proofs.replay.to_run.Goals as goal
 
 pub returns : goal.returns
 returns c =
-    let h = c.in_ok-examine_certificate.ensures in
+    let h = c.in_ok-examine.ensures in
     let few = replayed-few c.args.case.now c.args.certificate.now h.complete in
     let n = c.write_run.ensures.count in
     record {

@@ -7,5 +7,5 @@ use Rattle.conversions.proofs.replay.write_run.Given as goal
 -- what is left of the certificate leads to the whole run
 abbrev pub invariant-loop-item : goal.invariant-loop-item
 invariant-loop-item l =
-    Replaying (threads l.case) l.certificate l.initial.out (order_state (threads l.case) l.checker) l.item-index
-    (nexts l.next) l.at l.out
+    Replaying (threads l.case) l.certificate l.initial.sheet (order_state (threads l.case) l.checker) l.item-index
+    (nexts l.next) l.sheet

@@ -1,40 +1,24 @@
-use Rattle.std.proofs.Common.{◌≡◌, ℕ, ◌+◌, ◌<◌, ◌≤◌, List, length, get_or, take, ap, ◌∙◌, arith, rules}
-use Rattle.std.proofs.lemmas.List.{take_all}
+use Rattle.std.proofs.Common.{◌+◌, ap, arith, rules, tests}
+use Rattle.std.proofs.iter.runs.Made.{chains}
+use Rattle.std.proofs.lemmas.Iterator.{YieldsList-from_slice, YieldsList-from_map}
+use Rattle.std.proofs.lemmas.Iterator.Consumers.{fits_from_yields_list}
 use Rattle.conversions.specs.declared.hosts.Host.{Host}
-use Rattle.conversions.specs.declared.rows.Row.{Row}
-use Rattle.conversions.specs.Hosts.{new_host, width}
-use Rattle.conversions.specs.Rows.{window}
-use Rattle.conversions.proofs.Staying.{width-front, width-drop}
+use Rattle.conversions.specs.Hosts.{width}
+use Rattle.conversions.proofs.Staying.{width-sum}
 use Rattle.conversions.proofs.rows.Row.width.Goals as goal
 
--- the hosts so far and the next with them are no wider than all of the row
-fits : (row : Row) (hs : List Host) (i n : ℕ) → hs ≡ window row → n ≡ width (take i hs) → i < length hs
-    → n + ((get_or hs i (new_host 0)).joined + 1) ≤ 64
-fits row hs i n e is l =
-    let w = ap width e in
-    let m = width-front hs i (new_host 0) l in
-    let d = width-drop (i + 1) hs in
-    let k = row.counted in
-    let s = row.within in
-    omega arith
-
-pub overflow_add-n : goal.overflow_add-n
-overflow_add-n c =
-    let f = fits c.args.self.now c.waiting-waiting.result.now c.loop-host.host-index c.loop-host.n
-    c.waiting-waiting.ensures c.loop-host.invariant c.loop-host-test.true in
-    search rules
-
-pub overflow_add-n-in-loop-host : goal.overflow_add-n-in-loop-host
-overflow_add-n-in-loop-host c =
-    let f = fits c.args.self.now c.waiting-waiting.result.now c.loop-host.host-index c.loop-host.n
-    c.waiting-waiting.ensures c.loop-host.invariant c.loop-host-test.true in
-    search rules
-
-pub loop-host-preserved : goal.loop-host-preserved
-loop-host-preserved c =
-    let i = c.loop-host.invariant in
-    let m = width-front c.waiting-waiting.result.now c.loop-host.host-index (new_host 0) c.loop-host-test.true in
-    omega arith
+pub sum-requires-clause-fits : goal.sum-requires-clause-fits
+sum-requires-clause-fits c =
+    let w = width-sum c.waiting.result.now in
+    let e = ap width c.waiting.ensures in
+    let k = c.args.self.now.counted in
+    let n = c.args.self.now.within in
+    fits_from_yields_list c.map.result _
+    (YieldsList-from_map _ (λ (h : Host). h.joined + 1) (YieldsList-from_slice c.waiting.result.now cc) c.map.ensures.closure (λ x r q k. search (rules, tests)))
+    (omega arith)
 
 pub returns : goal.returns
-returns c = c.loop-host.invariant ∙ ap width (take_all _ c.waiting-waiting.result.now (omega arith) ∙ c.waiting-waiting.ensures)
+returns c =
+    let w = width-sum c.waiting.result.now in
+    let e = ap width c.waiting.ensures in
+    search (rules, chains)

@@ -1,14 +1,14 @@
 -- The fields of a line read from the left, and a row written from the left.
-use Rattle.std.proofs.Common.{◌≡◌, ℕ, ◌+◌, ◌<◌, ◌≤◌, true, cond, List, [], ◌∷◌, ◌++◌, length, set, Some, None, Ok, Err, decimal, sym, ap, ◌∙◌, arith, length-append}
+use Rattle.std.proofs.Common.{◌≡◌, ℕ, ◌+◌, ◌<◌, ◌≤◌, true, cond, List, [], ◌∷◌, ◌++◌, length, set, Some, None, Ok, Err, sym, refl, ap, ◌∙◌, arith, length-append}
 use Rattle.std.proofs.lemmas.List.{length_push}
 use Rattle.std.proofs.lemmas.Bool.{cond-true}
 use Rattle.text.specs.Csv.{cr, lf, first_of, rest_of}
 use Rattle.records.specs.Refusals.{Refusal}
-use Rattle.text.specs.Reading.{cell_of, then, cells_of}
+use Rattle.text.specs.Reading.{cell_of, then, cells_of, at_front}
 use Rattle.text.specs.Sheets.{Column, ended, row_text, all_known}
 use Rattle.text.specs.declared.put.Writer.{Writer}
 use Rattle.text.specs.Writing.{placed, HasRoom, Wrote}
-use Rattle.text.proofs.Places.{placed-more}
+use Rattle.text.proofs.Places.{placed-none, placed-more, placed-front}
 
 -- ── Reading ──
 -- the first of the fields ps is read for the column c, and qs are those behind it
@@ -27,12 +27,19 @@ pub size-known : (ks : List Column) (ns : List ℕ) (n : ℕ) → all_known ks n
 size-known ks ns n h e = ap (λ m. Some m) e ∙ sym (cond-true (all_known ks ns) _ _ h)
 
 -- one text was written behind another
-pub wrote-then : {a b c : Writer} {s t : List ℕ} → Wrote a b s → Wrote b c t → HasRoom a (s ++ t) → Wrote a c (s ++ t)
+pub wrote-then : {a b c : Writer} {s t : List ℕ} → Wrote a b s → Wrote b c t → HasRoom b t → Wrote a c (s ++ t)
 wrote-then {a} {b} {c} {s} {t} v w room =
     let l = length-append s t in
     record {
-      bytes = w.bytes ∙ (λ i. placed (v.bytes i) b.end t) ∙ placed-more a.out.now a.end s t b.end v.end (omega arith);
+      bytes = w.bytes ∙ (λ i. placed (v.bytes i) b.end t) ∙ placed-more a.out.now a.end s t b.end v.end (omega (arith, v.end, v.room));
       end = omega (arith, v.end, w.end);
       room = w.room ∙ v.room;
       same = w.same ∙ v.same;
     }
+
+pub wrote-none : (a : Writer) → Wrote a a []
+wrote-none a = record { bytes = placed-none a.out.now a.end; end = omega arith; room = refl; same = refl }
+
+-- all that was written stands in front
+pub wrote-front : {a b : Writer} {text : List ℕ} (out : List ℕ) → a.out.now ≡ out → a.end ≡ 0 → Wrote a b text → b.out.now ≡ at_front text out
+wrote-front {a} {b} {text} out is none w = w.bytes ∙ (λ i. placed (is i) (none i) text) ∙ placed-front out text

@@ -39,6 +39,10 @@ module _ {X : Type 0} (sh : Sheet) (cells : X → List ℕ) (rows : List X) wher
   abbrev pub Front : ℕ → List ℕ
   Front i = text_of sh (map cells (take i rows))
 
+  -- and of these rows without the header
+  abbrev pub Lines : ℕ → List ℕ
+  Lines i = flat_map (row_text sh.columns) (map cells (take i rows))
+
   abbrev pub Fits : List X → Type 0
   Fits xs = AllByRecursion (λ x. Fit sh.columns (cells x)) xs
 
@@ -51,10 +55,13 @@ module _ {X : Type 0} (sh : Sheet) (cells : X → List ℕ) (rows : List X) wher
   pub front-all : (i : ℕ) → length rows ≤ i → Front i ≡ text_of sh (map cells rows)
   front-all i l = ap (λ xs. text_of sh (map cells xs)) (take_all i rows l)
 
+  pub lines-more : (i : ℕ) (x : X) → i < length rows → x ≡ get_or rows i x → Lines (i + 1) ≡ Lines i ++ row_text sh.columns (cells x)
+  lines-more i x l is =
+      ap (flat_map (row_text sh.columns)) (map_more cells rows i x l ∙ ap (λ y. map cells (take i rows) ++ cells y ∷ []) (sym is))
+      ∙ sym (flat_map_more (row_text sh.columns) [] (map cells (take i rows)) (cells x))
+
   pub front-more : (i : ℕ) (x : X) → i < length rows → x ≡ get_or rows i x → Front (i + 1) ≡ Front i ++ row_text sh.columns (cells x)
-  front-more i x l is =
-      ap (text_of sh) (map_more cells rows i x l ∙ ap (λ y. map cells (take i rows) ++ cells y ∷ []) (sym is))
-      ∙ sym (flat_map_more (row_text sh.columns) (ended sh.header) (map cells (take i rows)) (cells x))
+  front-more i x l is = ap (λ t. ended sh.header ++ t) (lines-more i x l is) ∙ sym (append_assoc (ended sh.header) (Lines i) (row_text sh.columns (cells x)))
 
   pub front_le : (i : ℕ) → length (Front i) ≤ length (text_of sh (map cells rows))
   front_le i =
@@ -84,25 +91,6 @@ module _ {X : Type 0} (sh : Sheet) (cells : X → List ℕ) (rows : List X) wher
   pub all-measured : (i n : ℕ) → length rows ≤ i → n ≡ length (Front i) → Fits (take i rows) → Ok n ≡ measured sh (map cells rows)
   all-measured i n l e h =
       ap (λ m. Ok m) (e ∙ ap length (front-all i l)) ∙ sym (cond-true (rows_known sh (map cells rows)) _ _ (known-all (subst Fits (take_all i rows l) h)))
-
-  -- ── What stands in the bytes ──
-  pub placed_row : (s t u : List ℕ) (i at : ℕ) (x : X) → i < length rows → x ≡ get_or rows i x → length (text_of sh (map cells rows)) ≤ length s → at ≡ length (Front i) → t ≡ placed s 0 (Front i) → u ≡ placed t at (row_text sh.columns (cells x)) → u ≡ placed s 0 (Front (i + 1))
-  placed_row s t u i at x l is room ends before now =
-      let more = front-more i x l is in
-      now ∙ ap (λ v. placed v at (row_text sh.columns (cells x))) before
-      ∙ placed-more s 0 (Front i) (row_text sh.columns (cells x)) at (omega arith) (omega (arith, ap length more, length-append (Front i) (row_text sh.columns (cells x)), front_le (i + 1)))
-      ∙ ap (placed s 0) (sym more)
-
-  -- the header stood there when the rows were begun
-  pub placed_first : (s t : List ℕ) → t ≡ placed s 0 (ended sh.header) → t ≡ placed t 0 (Front 0)
-  placed_first s t is =
-      let h : t ≡ placed s 0 (Front 0) = is ∙ ap (placed s 0) (sym front-header) in
-      h ∙ sym (placed-over s (Front 0) (Front 0) (omega arith)) ∙ ap (λ u. placed u 0 (Front 0)) (sym h)
-
-  pub placed-all : (s t u : List ℕ) (i : ℕ) → length rows ≤ i → t ≡ placed s 0 (ended sh.header) → u ≡ placed t 0 (Front i) → u ≡ at_front (text_of sh (map cells rows)) s
-  placed-all s t u i l before now =
-      let text = text_of sh (map cells rows) in
-      now ∙ (λ j. placed ((before ∙ ap (placed s 0) (sym front-header)) j) 0 (front-all i l j)) ∙ placed-over s (Front 0) text (front_le 0) ∙ placed-front s text
 
 -- ── What the writing answers ──
 pub fits_not : (text : List ℕ) (room : ℕ) → room < length text → Err (refusal 6 0) ≡ fitting text room

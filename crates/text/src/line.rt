@@ -1,8 +1,9 @@
 // Lines of a text.
-ghost use Rattle.std.specs.Prelude.{◌≡◌, IfSome};
+ghost use Rattle.std.specs.Prelude.{◌≡◌, length, IfSome};
+ghost use Rattle.std.specs.Iterator.{at_most};
 ghost use Rattle.std.specs.Option.{option_map};
 ghost use Rattle.text.specs.Csv.{lines, first_line};
-ghost use Rattle.text.specs.Lines.{body_of, Off};
+ghost use Rattle.text.specs.Lines.{body_of, Off, NextLine};
 
 // A line without its CR LF, the number of its fields, and the text behind it.
 #[derive(Clone, Copy)]
@@ -25,5 +26,40 @@ impl<'a> Line<'a> {
         };
         let fields = body.iter().filter(|b| **b == b',').count() + 1;
         Some(Line { body, fields, rest })
+    }
+}
+
+// The lines of a text, one after the other; none in place of the first that is broken, and no line behind it.
+#[derive(Drop)]
+pub(crate) struct Lines<'a> {
+    rest: &'a [u8],
+}
+
+impl<'a> Lines<'a> {
+    pub(crate) fn of(text: &'a [u8]) -> Lines<'a>
+        ensures rest { result.rest.now ≡ text.now }
+    {
+        Lines { rest: text }
+    }
+}
+
+impl<'a> Iterator for Lines<'a> {
+    type Item = Option<Line<'a>>;
+
+    ghost next_gives = { NextLine };
+
+    ghost remaining = { λ s. at_most (length s.rest.now) };
+
+    fn next(&mut self) -> Option<Option<Line<'a>>> {
+        let text = self.rest;
+        if text.is_empty() {
+            return None;
+        }
+        let line = Line::first(text);
+        self.rest = match line {
+            Some(Line { rest, .. }) => rest,
+            None => &[],
+        };
+        Some(line)
     }
 }

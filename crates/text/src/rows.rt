@@ -1,7 +1,6 @@
 // Whole files, read and written for any kind of row.
 ghost use Rattle.std.specs.Prelude.{◌≡◌, ◌≤◌, map, length, take, IfOk, OnOk};
 ghost use Rattle.std.specs.List.{AllByRecursion};
-ghost use Rattle.std.specs.Str.{bytes_eq};
 ghost use Rattle.text.specs.Faults.{answered};
 ghost use Rattle.text.specs.Reading.{reading, answer_of, filled};
 ghost use Rattle.text.specs.Sheets.{Fit, text_of};
@@ -9,7 +8,7 @@ ghost use Rattle.text.specs.Writing.{measured, writing, written, ReadsAs};
 
 use crate::TextFault;
 use crate::field::Fields;
-use crate::line::Line;
+use crate::line::Lines;
 use crate::put::Writer;
 use crate::row::Row;
 
@@ -26,29 +25,24 @@ pub fn read<R: Row>(text: &[u8], rows: &mut [R]) -> Result<usize, TextFault>
     if text.len() > MOST_BYTES {
         return Err(TextFault::TooLong);
     }
-    let Some(first) = Line::first(text) else {
-        return Err(TextFault::Shape { line: 1 });
-    };
-    if first.body != R::header() {
-        return Err(TextFault::Shape { line: 1 });
+    let mut lines = Lines::of(text);
+    match lines.next() {
+        Some(Some(first)) if first.body == R::header() => {}
+        _ => return Err(TextFault::Shape { line: 1 }),
     }
     let room = rows.len().min(R::most());
     let mut count = 0;
-    let mut rest = first.rest;
-    while !rest.is_empty() {
+    for next in lines {
         let line = count + 2;
-        let Some(next) = Line::first(rest) else {
-            return Err(TextFault::Shape { line });
+        let body = match next {
+            Some(next) if next.fields == R::columns() => next.body,
+            _ => return Err(TextFault::Shape { line }),
         };
-        if next.fields != R::columns() {
-            return Err(TextFault::Shape { line });
-        }
         if count == room {
             return Err(TextFault::Full { line });
         }
-        rows[count] = R::parse(Fields::of(next.body, line))?;
+        rows[count] = R::parse(Fields::of(body, line))?;
         count += 1;
-        rest = next.rest;
     }
     Ok(count)
 }

@@ -1,83 +1,71 @@
-use Rattle.std.proofs.Common.{◌≡◌, ◌+◌, ◌-◌, ◌<◌, min, [], length, Some, None, Err, sym, refl, ap, ◌∙◌, arith, rules}
+use Rattle.std.proofs.Common.{◌≡◌, ◌+◌, ◌<◌, ◌≤◌, true, length, drop, sym, ap, ◌∙◌, rules, arith}
 use Rattle.std.proofs.lemmas.Result.{err_from_is_err_and}
-use Rattle.std.proofs.lemmas.List.{nil_from_length}
-use Rattle.std.proofs.lemmas.Bool.{eqb-false, eqb-true}
-use Rattle.text.specs.Csv.{fields, lines, first_line}
-use Rattle.records.specs.Refusals.{refusal}
-use Rattle.text.specs.Faults.{told}
-use Rattle.text.specs.Reading.{rows_from, finished}
-use Rattle.text.proofs.Reader.{broken, miscounted, overfull, looked, one_more, ends, reads_whole}
+use Rattle.std.specs.Str.{bytes_eq}
+use Rattle.text.specs.declared.line.Lines.{Lines}
+use Rattle.text.specs.Csv.{lines, first_line}
+use Rattle.text.specs.Reading.{cells_of}
+use Rattle.text.proofs.Reader.{started, one_more, at-end, at_broken, at_miscounted, at-overfull, at_refused, reads_whole}
 use Rattle.text.proofs.RoundTrip.{made, most-rows}
 use Rattle.text.proofs.rows.read.Goals as goal
 
-pub overflow_add-line : goal.overflow_add-line
-overflow_add-line g c = record { fits = omega (arith, most-rows g.R.Row.sheet (made g.R.Row.sheet g.met.R.Row.made), c.loop-rest.invariant.few) }
+pub loop-next-init : goal.loop-next-init
+loop-next-init g c =
+    let first = rw (c.in-Some-Some.is, c.in-Some-Some.field-0-is) at c.next.ensures.steps in
+    let same : bytes_eq c.in-Some-Some.first.body.now g.R.Row.sheet.header ≡ true = ap (bytes_eq c.in-Some-Some.first.body.now) (sym c.header.ensures.value) ∙ sym c.eq.ensures ∙ c.if-eq.true in
+    let after = ap (λ (l : Lines). lines l.rest.now) c.into_iter-next-iterator.ensures.into_iter_gives ∙ first.2.1 ∙ ap (λ t. drop 1 (lines t)) c.of-lines.ensures.rest in
+    (tt, tt, started g.R.Row.sheet g.R.Row.cells g.R.Row.row c.args.text.now c.args.rows.now _ c.in-Some-Some.first.body.now c.if-text-gt-MOST_BYTES.false (ap (λ t. first_line (lines t)) (sym c.of-lines.ensures.rest) ∙ sym first.1) same after)
 
-pub returns-in_default-first : goal.returns-in_default-first
-returns-in_default-first g c =
-    let sh = g.R.Row.sheet in let out = c.args.rows.now in let n = c.loop-rest.count in let rest = c.loop-rest.rest.now in
-    let some : 0 < length rest = omega (arith, eqb-false (length rest) 0 (sym c.loop-rest-test.ensures)) in
-    let stop = broken sh.columns (min (length out) sh.most - n) (n + 2) rest some (sym c.in_default-first.ensures.value) in
-    let p = ends sh g.R.Row.cells g.R.Row.row g.met.R.Row.back c.args.text.now out c.loop-rest.rows n rest c.loop-rest.auto.rows c.loop-rest.invariant (Some (refusal 1 (n + 2))) stop in
+pub overflow_add-line : goal.overflow_add-line
+overflow_add-line g c = record { fits = omega (arith, c.loop-next.invariant.2.few, most-rows g.R.Row.sheet (made g.R.Row.sheet g.met.R.Row.made)) }
+
+-- a line with another number of fields
+pub returns-in_default-next : goal.returns-in_default-next
+returns-in_default-next g c =
+    let next = rw c.in-Some-next.is at c.in-Some.ensures.steps in
+    let p = at_miscounted g.met.R.Row.back c.loop-next.auto.rows c.loop-next.invariant.2 c.in-Some-next.next.body.now (sym next.1) (λ e. c.if-next-columns.false (next.2.0 ∙ e ∙ sym c.columns.ensures.value)) in
     record { answer = p.0; after = p.1; whole = tt }
 
-pub returns-then-next-columns : goal.returns-then-next-columns
-returns-then-next-columns g c =
-    let sh = g.R.Row.sheet in let out = c.args.rows.now in let n = c.loop-rest.count in let rest = c.loop-rest.rest.now in
-    let line = c.in-Some-first.next.body.now in
-    let found : first_line (lines rest) ≡ Some line = sym c.in-Some-first.ensures.value in
-    let counts = c.in-Some-first.ensures.off.count in
-    let wrong : length (fields line) ≡ length sh.columns → ⊥ = λ e. c.if-next-columns.true (counts ∙ e ∙ sym c.columns.ensures.value) in
-    let stop = miscounted sh.columns (min (length out) sh.most - n) (n + 2) rest line found wrong in
-    let p = ends sh g.R.Row.cells g.R.Row.row g.met.R.Row.back c.args.text.now out c.loop-rest.rows n rest c.loop-rest.auto.rows c.loop-rest.invariant (Some (refusal 1 (n + 2))) stop in
+-- a line that is not ended by CR LF
+pub returns-in_default-next-2 : goal.returns-in_default-next-2
+returns-in_default-next-2 g c =
+    let next = rw c.in_default-next.is at c.in-Some.ensures.steps in
+    let p = at_broken g.met.R.Row.back c.loop-next.auto.rows c.loop-next.invariant.2 next.0 (sym next.1) in
     record { answer = p.0; after = p.1; whole = tt }
 
 pub returns-then-count-room : goal.returns-then-count-room
 returns-then-count-room g c =
-    let sh = g.R.Row.sheet in let out = c.args.rows.now in let n = c.loop-rest.count in let rest = c.loop-rest.rest.now in
-    let line = c.in-Some-first.next.body.now in
-    let found : first_line (lines rest) ≡ Some line = sym c.in-Some-first.ensures.value in
-    let counts = c.in-Some-first.ensures.off.count in
-    let right : length (fields line) ≡ length sh.columns = sym counts ∙ c.if-next-columns.false ∙ c.columns.ensures.value in
-    let none : min (length out) sh.most - n ≡ 0 = omega arith in
-    let stop = overfull sh.columns (min (length out) sh.most - n) (n + 2) rest line found right none in
-    let p = ends sh g.R.Row.cells g.R.Row.row g.met.R.Row.back c.args.text.now out c.loop-rest.rows n rest c.loop-rest.auto.rows c.loop-rest.invariant (Some (refusal 4 (n + 2))) stop in
+    let next = rw c.in-Some-next.is at c.in-Some.ensures.steps in
+    let p = at-overfull g.met.R.Row.back c.loop-next.auto.rows c.loop-next.invariant.2 c.in-Some-next.next.body.now (sym next.1) (sym next.2.0 ∙ c.if-next-columns.true ∙ c.columns.ensures.value) (omega (arith, c.most.ensures.value)) in
     record { answer = p.0; after = p.1; whole = tt }
 
 pub returns-in_err-rows : goal.returns-in_err-rows
 returns-in_err-rows g c =
-    let sh = g.R.Row.sheet in let out = c.args.rows.now in let n = c.loop-rest.count in let rest = c.loop-rest.rest.now in
-    let line = c.in-Some-first.next.body.now in
-    let found : first_line (lines rest) ≡ Some line = sym c.in-Some-first.ensures.value in
-    let counts = c.in-Some-first.ensures.off.count in
-    let right : length (fields line) ≡ length sh.columns = sym counts ∙ c.if-next-columns.false ∙ c.columns.ensures.value in
+    let next = rw c.in-Some-next.is at c.in-Some.ensures.steps in
+    let cells = c.in_err-rows.ensures.value ∙ (λ i. cells_of (c.of.ensures.line i) g.R.Row.sheet.columns (c.of.ensures.fields i)) in
+    let p = at_refused g.met.R.Row.back c.loop-next.auto.rows c.loop-next.invariant.2 c.in-Some-next.next.body.now (sym next.1) (sym next.2.0 ∙ c.if-next-columns.true ∙ c.columns.ensures.value) (λ e. c.if-count-room.false (omega (arith, c.most.ensures.value))) _ cells in
     let q = err_from_is_err_and c.from_residual.result c.from_residual.ensures.1 in
-    let some : 0 < min (length out) sh.most - n = omega (arith, c.loop-rest.invariant.few) in
-    let stop = looked sh.columns (min (length out) sh.most - n) (n + 2) rest line found right some (Err (told c.in_err-rows.field-0.0)) c.in_err-rows.ensures.value in
-    let p = ends sh g.R.Row.cells g.R.Row.row g.met.R.Row.back c.args.text.now out c.loop-rest.rows n rest c.loop-rest.auto.rows c.loop-rest.invariant (Some (told c.in_err-rows.field-0.0)) stop in
     rw (q.1, q.2) (record { answer = p.0; after = p.1; whole = tt })
 
-pub offset_bounds-rows-count : goal.offset_bounds-rows-count
-offset_bounds-rows-count g c = let h : c.loop-rest.count < length c.args.rows.now = omega (arith, c.loop-rest.invariant.few) in search rules
+pub bounds-rows-count : goal.bounds-rows-count
+bounds-rows-count g c = omega (arith, c.loop-next.invariant.2.few)
 
-pub loop-rest-preserved : goal.loop-rest-preserved
-loop-rest-preserved g c =
-    let sh = g.R.Row.sheet in let out = c.args.rows.now in let n = c.loop-rest.count in let rest = c.loop-rest.rest.now in
-    let line = c.in-Some-first.next.body.now in
-    let found : first_line (lines rest) ≡ Some line = sym c.in-Some-first.ensures.value in
-    let counts = c.in-Some-first.ensures.off.count in
-    let right : length (fields line) ≡ length sh.columns = sym counts ∙ c.if-next-columns.false ∙ c.columns.ensures.value in
-    let some : n < min (length out) sh.most = omega (arith, c.loop-rest.invariant.few) in
-    one_more sh g.R.Row.cells g.R.Row.row c.args.text.now out c.loop-rest.rows n rest line c.in-Some-first.next.rest.now c.in_ok-rows.field-0 c.loop-rest.auto.rows some c.loop-rest.invariant found right c.in_ok-rows.ensures.value c.in-Some-first.ensures.off.after
+pub offset_bounds-rows-count : goal.offset_bounds-rows-count
+offset_bounds-rows-count g c = let h : c.loop-next.count < length c.args.rows.now = omega (arith, c.loop-next.invariant.2.few) in search rules
+
+pub loop-next-preserved : goal.loop-next-preserved
+loop-next-preserved g c =
+    let next = rw c.in-Some-next.is at c.in-Some.ensures.steps in
+    let cells = c.in_ok-rows.ensures.value ∙ (λ i. cells_of (c.of.ensures.line i) g.R.Row.sheet.columns (c.of.ensures.fields i)) in (
+      tt, tt,
+      one_more g.R.Row.sheet g.R.Row.cells g.R.Row.row c.args.text.now c.args.rows.now c.loop-next.rows c.loop-next.count c.loop-next.next-iterator.rest.now c.in-Some-next.next.body.now c.next-in-loop-next.new.self.rest.now c.in_ok-rows.field-0
+      c.loop-next.auto.rows (omega (arith, c.loop-next.invariant.2.few, c.most.ensures.value)) c.loop-next.invariant.2 (sym next.1) (sym next.2.0 ∙ c.if-next-columns.true ∙ c.columns.ensures.value) cells next.2.1,
+    )
 
 pub returns : goal.returns
 returns g c =
-    let sh = g.R.Row.sheet in let out = c.args.rows.now in let n = c.loop-rest.count in let rest = c.loop-rest.rest.now in
-    let none : rest ≡ [] = nil_from_length rest (eqb-true (length rest) 0 (sym c.loop-rest-test.ensures)) in
-    let stop : rows_from sh.columns (min (length out) sh.most - n) (n + 2) (lines rest) ≡ finished = ap (λ t. rows_from sh.columns (min (length out) sh.most - n) (n + 2) (lines t)) none in
-    let p = ends sh g.R.Row.cells g.R.Row.row g.met.R.Row.back c.args.text.now out c.loop-rest.rows n rest c.loop-rest.auto.rows c.loop-rest.invariant None stop in
+    let p = at-end g.met.R.Row.back c.loop-next.auto.rows c.loop-next.invariant.2 c.in-None.ensures.steps in
     record {
       answer = p.0;
       after = p.1;
-      whole = reads_whole sh g.R.Row.cells g.R.Row.row g.met.R.Row.back c.args.text.now out c.loop-rest.rows n rest c.loop-rest.auto.rows c.loop-rest.invariant None stop (made sh g.met.R.Row.made) refl;
+      whole = reads_whole g.met.R.Row.back c.loop-next.auto.rows c.loop-next.invariant.2 c.in-None.ensures.steps g.met.R.Row.made;
     }

@@ -1,7 +1,7 @@
 use Rattle.std.proofs.Common.{◌≡◌, ◌+◌, ◌≤◌, ◌%◌, [], ◌∷◌, length, decimal, sym, ap, ◌∙◌, subst, arith}
 use Rattle.std.proofs.lemmas.Fmt.{decimal_digit, decimal_step}
 use Rattle.text.specs.declared.put.Writer.{Writer}
-use Rattle.text.specs.Writing.{HasRoom, Wrote}
+use Rattle.text.specs.Writing.{Wrote}
 use Rattle.text.proofs.Columns.{wrote-then}
 use Rattle.text.proofs.Numerals.{length-step}
 use Rattle.text.proofs.put.Writer.+number.Goals as goal
@@ -23,7 +23,7 @@ returns t c =
       | then-n-ge10 w ↦
         let step = decimal_step c.args.n (omega arith) (omega arith) in
         let byte = subst (λ (x : Writer). Wrote x c.byte.new.self ((48 + c.args.n % 10) ∷ [])) w.self-is c.byte.ensures.wrote in
-        record { wrote = subst (Wrote c.args.self.now c.byte.new.self) (sym step) (wrote-then w.number.ensures.wrote byte (subst (HasRoom c.args.self.now) step c.requires)) }
+        record { wrote = subst (Wrote c.args.self.now c.byte.new.self) (sym step) (wrote-then w.number.ensures.wrote byte (omega (arith, length-step c.args.n (omega arith) (omega arith), w.number.ensures.wrote.end, w.number.ensures.wrote.room))) }
       | else-n-ge10 w ↦
         let digit : decimal c.args.n ≡ (48 + c.args.n % 10) ∷ [] = decimal_digit c.args.n (omega arith) ∙ ap (λ d. d ∷ []) (omega arith) in
         let byte = subst (λ (x : Writer). Wrote x c.byte.new.self ((48 + c.args.n % 10) ∷ [])) w.self-is c.byte.ensures.wrote in

@@ -1,5 +1,5 @@
 -- Where the records of a case in form stand: each thread's part of the list, the action at each place, names and indices.
-use Rattle.std.proofs.Common.{◌≡◌, ℕ, zero, suc, ◌+◌, ◌-◌, ◌*◌, ◌<◌, ◌≤◌, Bool, true, false, ◌&&◌, eqb, ltb, List, [], ◌∷◌, length, get_or, take, drop, is_some, IfSome, Some, None, Option, unwrap_or, sym, refl, ap, ◌∙◌, subst, ⊎_elim, add-one, arith}
+use Rattle.std.proofs.Common.{◌≡◌, ℕ, zero, suc, ◌+◌, ◌-◌, ◌*◌, ◌<◌, ◌≤◌, true, eqb, List, [], ◌∷◌, length, get_or, take, drop, is_some, IfSome, Some, None, Option, unwrap_or, sym, refl, ap, ◌∙◌, subst, ⊎_elim, arith}
 use Rattle.std.specs.List.{slice_get}
 use Rattle.std.proofs.lemmas.List.FromFn.{get_or-map-range_with_len, length-map-range_with_len}
 use Rattle.std.proofs.lemmas.List.{get_or_past, nil_from_length}
@@ -13,7 +13,7 @@ use Rattle.records.specs.Names.{blank, at, of_thread, below, named, name, record
 use Rattle.records.proofs.Firsts.{Found, nowhere, here, found}
 use Rattle.records.proofs.Threads.{below_more, together, at_place, stands}
 use Rattle.form.specs.Form.{in_form}
-use Rattle.form.specs.Layouts.{starts_of, slot, slot_named}
+use Rattle.form.specs.Layouts.{starts_of, from, upto, slot_named}
 use Rattle.form.proofs.Clears.{clears}
 use Rattle.form.proofs.Laws.{lawful}
 use Rattle.form.proofs.Fields.{located}
@@ -60,72 +60,6 @@ module _ (xs : List Record) (formed : in_form xs ≡ true) where
       let n : length (of_thread t xs) ≡ below (suc t) xs - below t xs = omega arith in
       together 0 t xs (grouped xs (clears xs formed).misplaced) ∙ ap (λ k. take k (drop (below t xs) xs)) n
 
-  -- the action at the index that a place has
-  action-there : (t p : ℕ) → t < 8 → p < length (of_thread t xs) → slice_get (thread (threads_of xs) t) p ≡ action_of (64 * t + p) (at xs (below t xs + p))
-  action-there t p s l =
-      let a = at_place 0 t p xs (grouped xs (clears xs formed).misplaced) l in
-      let z : named t 0 + p ≡ 64 * t + p = omega arith in
-      let w = (at_slot xs (clears xs formed).misplaced t p l).within in
-      ap (λ k. slice_get k p) (thread_is xs t s) ∙ nth_actions (named t 0) p (of_thread t xs) l
-      ∙ (λ i. Some (unwrap_or (action_of (z i) (a i)) (Sync (z i) 0 End))) ∙ some_value _ _ ((lawful xs formed).is_action (below t xs + p) (64 * t + p) w)
-
-  action-none : (t p : ℕ) → length (of_thread t xs) ≤ p → slice_get (thread (threads_of xs) t) p ≡ None
-  action-none t p l = ⊎_elim (λ s. ap (λ k. slice_get k p) (thread_is xs t s) ∙ nth_none (named t 0) p (of_thread t xs) l) (λ s. ap (λ k. slice_get k p) (thread-none xs t s)) (cases_lt t 8)
-
-  -- what the slot of a place tells of the action there
-  data Slot (t p : ℕ) : Type 0 where
-    empty : slot (starts_of xs) t p ≡ None → slice_get (thread (threads_of xs) t) p ≡ None → Slot t p
-    holds : (k : ℕ) → slot (starts_of xs) t p ≡ Some k → k < length xs → slice_get (thread (threads_of xs) t) p ≡ action_of (64 * t + p) (at xs k) → Slot t p
-
-  slot-tells : (t p : ℕ) → Slot t p
-  slot-tells t p = ⊎_elim far near (cases_lt t 8)
-    where
-      test : Bool
-      test = ltb t 8 && ltb (get_or (starts_of xs) t 0 + p) (get_or (starts_of xs) (suc t) 0)
-
-      near : 8 ≤ t → Slot t p
-      near h = empty (cond-false _ _ _ (ap (λ b. b && ltb (get_or (starts_of xs) t 0 + p) (get_or (starts_of xs) (suc t) 0)) (le-ltb t 8 h))) (ap (λ k. slice_get k p) (thread-none xs t h))
-
-      far : t < 8 → Slot t p
-      far h = ⊎_elim inside outside (cases_lt p (length (of_thread t xs)))
-        where
-          inside : p < length (of_thread t xs) → Slot t p
-          inside l =
-              let s = start t (omega arith) in
-              let e = start (suc t) (omega arith) in
-              let m = below_more t xs in
-              let b : ltb (get_or (starts_of xs) t 0 + p) (get_or (starts_of xs) (suc t) 0) ≡ true = lt-ltb _ _ (omega arith) in
-              holds (below t xs + p)
-              (cond-true _ _ _ ((λ i. lt-ltb t 8 h i && b i)) ∙ ap (λ (n : ℕ). Some (n + p)) s)
-              (at_slot xs (clears xs formed).misplaced t p l).within (action-there t p h l)
-
-          outside : length (of_thread t xs) ≤ p → Slot t p
-          outside l =
-              let s = start t (omega arith) in
-              let e = start (suc t) (omega arith) in
-              let m = below_more t xs in
-              let b : ltb (get_or (starts_of xs) t 0 + p) (get_or (starts_of xs) (suc t) 0) ≡ false = le-ltb _ _ (omega arith) in
-              empty (cond-false _ _ _ ((λ i. lt-ltb t 8 h i && b i))) (action-none t p l)
-
-  pub slot-none : (t p : ℕ) → slot (starts_of xs) t p ≡ None → slice_get (thread (threads_of xs) t) p ≡ None
-  slot-none t p e = by (slot-tells t p)
-    where
-      by : Slot t p → slice_get (thread (threads_of xs) t) p ≡ None
-      by (empty _ n) = n
-      by (holds k f _ _) = absurd (false≢true (ap is_some (sym e ∙ f)))
-
-  pub slot-some : (t p k : ℕ) → slot (starts_of xs) t p ≡ Some k → (k < length xs) × (slice_get (thread (threads_of xs) t) p ≡ action_of (64 * t + p) (at xs k))
-  slot-some t p k e = by (slot-tells t p)
-    where
-      by : Slot t p → (k < length xs) × (slice_get (thread (threads_of xs) t) p ≡ action_of (64 * t + p) (at xs k))
-      by (empty f _) = absurd (false≢true (ap is_some (sym f ∙ e)))
-      by (holds j f l n) =
-          let q : j ≡ k = (let g : ◌≡◌ {A = Option ℕ} (Some j) (Some k) = sym f ∙ e in cc) in
-          subst (λ i. (i < length xs) × (slice_get (thread (threads_of xs) t) p ≡ action_of (64 * t + p) (at xs i))) q (l, n)
-
-  pub located_at : (n k : ℕ) → k < length xs → IfSome (action_of n (at xs k)) Located
-  located_at n k l = located (at xs k) ((clears xs formed).malformed k l) n
-
   -- no thread but the eight
   pub thread-over : (t : ℕ) → 8 ≤ t → [] ≡ of_thread t xs
   thread-over t h =
@@ -133,6 +67,34 @@ module _ (xs : List Record) (formed : in_form xs ≡ true) where
       let a = at_slot xs (clears xs formed).misplaced t 0 l in
       absurd (let m = thread_small xs (clears xs formed).misplaced _ a.within in omega (arith, a.thread)))
       (λ l. sym (nil_from_length (of_thread t xs) (omega arith))) (cases_lt 0 (length (of_thread t xs)))
+
+  -- ── Actions ──
+  pub action-none : (t p : ℕ) → length (of_thread t xs) ≤ p → slice_get (thread (threads_of xs) t) p ≡ None
+  action-none t p l = ⊎_elim (λ s. ap (λ k. slice_get k p) (thread_is xs t s) ∙ nth_none (named t 0) p (of_thread t xs) l) (λ s. ap (λ k. slice_get k p) (thread-none xs t s)) (cases_lt t 8)
+
+  -- r stands at place p of thread t
+  module _ (t p : ℕ) (r : Record) (inside : p < length (of_thread t xs)) (is : r ≡ get_or (of_thread t xs) p blank) where
+    abbrev k : ℕ
+    k = below t xs + p
+
+    k_small : k < length xs
+    k_small = (at_slot xs (clears xs formed).misplaced t p inside).within
+
+    r_is : r ≡ at xs k
+    r_is = is ∙ at_place 0 t p xs (grouped xs (clears xs formed).misplaced) inside
+
+    t_small : t < 8
+    t_small = ⊎_elim (λ s. s) (λ s. absurd (let e = ap length (thread-over t s) in omega arith)) (cases_lt t 8)
+
+    pub action-some : slice_get (thread (threads_of xs) t) p ≡ action_of (64 * t + p) r
+    action-some =
+        let z : named t 0 + p ≡ 64 * t + p = omega arith in
+        ap (λ a. slice_get a p) (thread_is xs t t_small) ∙ nth_actions (named t 0) p (of_thread t xs) inside
+        ∙ (λ i. Some (unwrap_or (action_of (z i) (sym is i)) (Sync (z i) 0 End)))
+        ∙ some_value _ _ (ap (λ q. is_some (action_of (64 * t + p) q)) r_is ∙ (lawful xs formed).is_action k (64 * t + p) k_small)
+
+    pub action-located : (n : ℕ) → IfSome (action_of n r) Located
+    action-located n = subst (λ q. IfSome (action_of n q) Located) (sym r_is) (located (at xs k) ((clears xs formed).malformed k k_small) n)
 
   -- as many actions as records
   pub thread-long : (t : ℕ) → length (of_thread t xs) ≡ length (thread (threads_of xs) t)
@@ -175,30 +137,38 @@ module _ (xs : List Record) (formed : in_form xs ≡ true) where
   pub found-named : (n : ℕ) → slot_named (starts_of xs) n ≡ record_named xs n
   found-named = slot-named xs (clears xs formed).misplaced
 
--- a thread's records, by where the threads start
-module _ (xs : List Record) (formed : in_form xs ≡ true) (starts : List ℕ) (laid : starts ≡ starts_of xs) (t : ℕ) (small : t < 8) where
-  from_is : get_or starts t 0 ≡ below t xs
-  from_is = ap (λ s. get_or s t 0) laid ∙ start xs formed t (omega arith)
+-- what lies between the starts of a thread and of the next one, in any list of where the threads start
+module _ (xs : List Record) (formed : in_form xs ≡ true) (starts : List ℕ) (laid : starts ≡ starts_of xs) where
+  -- the records of thread t, from a and up to b
+  pub record Part (t a b : ℕ) : Type 0 where
+    pub up : a ≤ b
+    pub within : b ≤ length xs
+    pub is : take (b - a) (drop a xs) ≡ of_thread t xs
 
-  upto_is : get_or starts (t + 1) 0 ≡ below (suc t) xs
-  upto_is = ap (λ s. get_or s (t + 1) 0) laid ∙ ap (λ k. get_or (starts_of xs) k 0) (add-one t) ∙ start xs formed (suc t) (omega arith)
+  pub part : (t a b : ℕ) → a ≡ from starts t → b ≡ upto starts t → Part t a b
+  part t a b e f = ⊎_elim one_of_eight over (cases_lt t 8)
+    where
+      one_of_eight : t < 8 → Part t a b
+      one_of_eight s =
+          let g : a ≡ below t xs = e ∙ cond-true _ _ _ (lt-ltb t 8 s) ∙ ap (λ l. get_or l t 0) laid ∙ start xs formed t (omega arith) in
+          let h : b ≡ below (suc t) xs = f ∙ cond-true _ _ _ (lt-ltb t 8 s) ∙ ap (λ l. get_or l (suc t) 0) laid ∙ start xs formed (suc t) (omega arith) in
+          let m = below_more t xs in
+          let w = below-within t xs in
+          record { up = omega arith; within = omega arith; is = (λ i. take (h i - g i) (drop (g i) xs)) ∙ sym (thread-part xs formed t) }
 
-  pub part_up : get_or starts t 0 ≤ get_or starts (t + 1) 0
-  part_up = let m = below_more t xs in omega (arith, from_is, upto_is)
+      over : 8 ≤ t → Part t a b
+      over s =
+          let g : a ≡ 0 = e ∙ cond-false _ _ _ (le-ltb t 8 s) in
+          let h : b ≡ 0 = f ∙ cond-false _ _ _ (le-ltb t 8 s) in
+          record { up = omega arith; within = omega arith; is = (λ i. take (h i - g i) (drop (g i) xs)) ∙ thread-over xs formed t s }
 
-  pub part-within : get_or starts (t + 1) 0 ≤ length xs
-  part-within = let m = below_more t xs in let w = below-within t xs in omega (arith, upto_is)
+  -- the name of the record at k, of thread t, by where the thread starts
+  module _ (k t a : ℕ) (inside : k < length xs) (which : t ≡ (at xs k).thread) (e : a ≡ from starts t) where
+    begin_is : a ≡ get_or (starts_of xs) (at xs k).thread 0
+    begin_is = e ∙ ap (from starts) which ∙ cond-true _ _ _ (lt-ltb _ 8 (name_of xs formed k inside).small) ∙ ap (λ s. get_or s (at xs k).thread 0) laid
 
-  pub part_is : take (get_or starts (t + 1) 0 - get_or starts t 0) (drop (get_or starts t 0) xs) ≡ of_thread t xs
-  part_is = (λ i. take (upto_is i - from_is i) (drop (from_is i) xs)) ∙ sym (thread-part xs formed t)
+    pub starts-before : a ≤ k
+    starts-before = omega (arith, begin_is, (name_of xs formed k inside).starts)
 
--- the name of the record at an index, by where its thread starts
-module _ (xs : List Record) (formed : in_form xs ≡ true) (starts : List ℕ) (laid : starts ≡ starts_of xs) (k : ℕ) (within : k < length xs) where
-  begin_is : get_or starts (at xs k).thread 0 ≡ get_or (starts_of xs) (at xs k).thread 0
-  begin_is = ap (λ s. get_or s (at xs k).thread 0) laid
-
-  pub starts-before : get_or starts (at xs k).thread 0 ≤ k
-  starts-before = omega (arith, begin_is, (name_of xs formed k within).starts)
-
-  pub name_by_start : (at xs k).thread * 64 + (k - get_or starts (at xs k).thread 0) ≡ name xs k
-  name_by_start = ap (λ b. (at xs k).thread * 64 + (k - b)) begin_is ∙ (name_of xs formed k within).is
+    pub name_by_start : t * 64 + (k - a) ≡ name xs k
+    name_by_start = (λ i. which i * 64 + (k - begin_is i)) ∙ (name_of xs formed k inside).is

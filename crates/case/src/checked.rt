@@ -6,6 +6,7 @@ ghost use Rattle.form.specs.Layouts.{starts_of};
 use form::threads::Layout;
 use records::Record;
 
+// A fixed table and a count in place of a Vec: cases stand in the caller's memory, and a case is Copy.
 #[derive(Clone, Copy)]
 pub struct CheckedCase {
     pub(crate) records: [Record; 256],

@@ -23,23 +23,13 @@ use form::threads::Layout;
 use records::Record;
 use records::action::Action;
 
-const BLANK: Record = Record {
-    letter: '\0',
-    value: 0,
-    seen: 0,
-    turn: 0,
-    thread: 0,
-    target: 0,
-};
-
 // These records at the front of a full table.
 fn padded(records: &[Record]) -> [Record; 256]
     requires { length records.now ≤ 256 }
     ensures { take (length records.now) result ≡ records.now }
 {
-    let mut all = [BLANK; 256];
-    let count = records.len();
-    all[0..count].copy_from_slice(records);
+    let mut all = [Record::default(); 256];
+    all[..records.len()].copy_from_slice(records);
     all
 }
 
@@ -48,7 +38,7 @@ impl CheckedCase {
         ensures { records_of result ≡ [] }
     {
         CheckedCase {
-            records: [BLANK; 256],
+            records: [Record::default(); 256],
             count: 0,
             layout: Layout { starts: [0; 9] },
         }
@@ -61,9 +51,8 @@ impl CheckedCase {
         ensures kept { OnErr result (self.new ≡ self.old) }
     {
         let layout = check_form(records)?;
-        let all = padded(records);
         *self = CheckedCase {
-            records: all,
+            records: padded(records),
             count: records.len() as u16,
             layout,
         };
@@ -75,7 +64,7 @@ impl CheckedCase {
         ensures value { result.now ≡ records_of self.now }
         ensures lawful { Lawful result.now }
     {
-        &self.records[0..self.count as usize]
+        &self.records[..self.count as usize]
     }
 
     // A thread's records, in program order: one for each of its actions.
@@ -84,13 +73,7 @@ impl CheckedCase {
         ensures len { length result.now ≡ length (thread_of (threads self.now) thread) }
         ensures few { length result.now ≤ 64 }
     {
-        let records = self.records();
-        if thread > 7 {
-            return &records[0..0];
-        }
-        let from = self.layout.starts[thread as usize] as usize;
-        let upto = self.layout.starts[thread as usize + 1] as usize;
-        &records[from..upto]
+        &self.records()[self.layout.range(thread)]
     }
 
     // The action at a place of a thread.
@@ -98,8 +81,8 @@ impl CheckedCase {
         ensures value { result ≡ slice_get (thread_of (threads self.now) thread) place }
         ensures located { IfSome result Located }
     {
-        let k = self.layout.slot(thread, place)?;
-        self.records()[k].action(u16::from(thread) * 64 + u16::from(place))
+        let record = self.thread(thread).get(place as usize)?;
+        record.action(u16::from(thread) * 64 + u16::from(place))
     }
 
     // The name of the record at an index.
@@ -107,12 +90,8 @@ impl CheckedCase {
         ensures value { result ≡ name_at (records_of self.now) index }
         ensures found { IfSome result (λ n. record_named (records_of self.now) n ≡ Some index) }
     {
-        let records = self.records();
-        if index >= records.len() {
-            return None;
-        }
-        let thread = records[index].thread;
-        let place = index - self.layout.starts[thread as usize] as usize;
+        let thread = self.records().get(index)?.thread;
+        let place = index - self.layout.range(thread).start;
         Some(u16::from(thread) * 64 + place as u16)
     }
 

@@ -6,7 +6,7 @@ use Rattle.std.proofs.lemmas.Bool.Decides.{nat_tests}
 use Rattle.records.specs.declared.Record.{Record}
 use Rattle.records.specs.declared.action.Action.{Action}
 use Rattle.records.specs.Actions.{action_of, Located}
-use Rattle.records.specs.Letters.{letter, among, is_capital, is_plain, is_volatile, is_read, is_write}
+use Rattle.records.specs.Letters.{letter, among, is_capital, is_read, is_write}
 use Rattle.form.specs.Rules.{limit, within, used_or_zero, turn_fits, well_formed}
 use Rattle.form.specs.Lives.{subject}
 
@@ -25,14 +25,9 @@ module _ (r : Record) (h : not (well_formed r) ≡ false) where
   target_most : (m : ℕ) (l : List ℕ) → AllByRecursion (λ a. limit a ≡ Some m) l → among r.letter l ≡ true → r.target ≤ m
   target_most m l a e = leb-true r.target m (ap (within r.target) (sym (among-limit r.letter (Some m) l a e)) ∙ parts.0)
 
-  pub plain_target : is_plain r.letter ≡ true → r.target < 64
-  plain_target e = omega (arith, target_most 63 (codes "rw") (refl, (refl, tt)) e)
-
-  pub volatile_target : is_volatile r.letter ≡ true → r.target < 64
-  volatile_target e = omega (arith, target_most 63 (codes "RW") (refl, (refl, tt)) e)
-
-  pub monitor_target : among r.letter (codes "LU") ≡ true → r.target < 16
-  monitor_target e = omega (arith, target_most 15 (codes "LU") (refl, (refl, tt)) e)
+  -- no letter has a target above 63
+  pub target_small : r.target < 64
+  target_small = let p = parts.0 in grind (arith, nat_tests)
 
   pub subject-small : r.thread < 8 → subject r < 8
   subject-small l =

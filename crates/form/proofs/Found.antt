@@ -5,10 +5,6 @@ use Rattle.records.specs.First.{first, some}
 use Rattle.records.proofs.Firsts.{Found, nowhere, here, found, first_more, some_more}
 
 -- ── None ──
-pub none-unless : {X : Type 0} (o : Option X) → ((x : X) → o ≡ Some x → ⊥) → o ≡ None
-none-unless None h = refl
-none-unless (Some x) h = absurd (h x refl)
-
 pub none_from : {X : Type 0} (o : Option X) → is_some o ≡ false → o ≡ None
 none_from None e = refl
 none_from (Some x) e = absurd (both_ways true e refl)
@@ -28,9 +24,6 @@ module _ (f : ℕ → Bool) (n : ℕ) where
 
   pub first-kept : some f n ≡ true → first f (n + 1) ≡ first f n
   first-kept e = more ∙ cond-true _ _ _ e
-
-  pub first-new : some f n ≡ false → f n ≡ true → first f (n + 1) ≡ Some n
-  first-new e t = more ∙ cond-false _ _ _ e ∙ cond-true _ _ _ t
 
   pub first_quiet : f n ≡ false → first f (n + 1) ≡ first f n
   first_quiet t = ⊎_elim first-kept (λ e. more ∙ cond-false _ _ _ e ∙ cond-false _ _ _ t ∙ sym (none_from (first f n) e)) (cases_Bool (some f n))

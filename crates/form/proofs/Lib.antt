@@ -1,11 +1,12 @@
 pub mod Found
+pub mod Positions
+pub mod Refused
 pub mod Tables
 pub mod Layouts
 pub mod Fields
 pub mod Flags
 pub mod Turning
 pub mod Lives
-pub mod Holders
 pub mod Unbroken
 pub mod Kept
 pub mod Taken

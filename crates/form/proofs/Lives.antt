@@ -1,31 +1,17 @@
 -- One turn of the check of rule 17: the table of lives, when the turn moves a thread and when it does not.
-use Rattle.std.proofs.Common.{◌≡◌, ℕ, ◌+◌, ◌<◌, Bool, true, false, cond, not, ◌&&◌, ◌||◌, eqb, List, length, get_or, set, replicate, is_some, Some, None, sym, refl, ap, ◌∙◌, subst, arith}
+use Rattle.std.proofs.Common.{◌≡◌, ℕ, ◌+◌, ◌<◌, Bool, true, false, not, ◌&&◌, ◌||◌, eqb, List, get_or, set, is_some, Some, sym, refl, ap, ◌∙◌, arith}
 use mathlib.Core.Bool.{and-true, or_assoc}
 use Rattle.std.proofs.lemmas.Bool.{both_ways, and_left, and_right, eq-eqb, ne_eqb}
 use Rattle.std.proofs.lemmas.Bool.Decides.{nat_tests}
 use Rattle.records.specs.declared.Record.{Record}
-use Rattle.records.specs.First.{some, Clear}
+use Rattle.records.specs.First.{some}
 use Rattle.records.specs.Letters.{letter}
-use Rattle.records.specs.Names.{at}
-use Rattle.records.proofs.Firsts.{clear-more}
 use Rattle.form.specs.declared.life.Life.{Life}
-use Rattle.form.specs.declared.life.Life.TheVariants.{Unborn, Ready}
-use Rattle.form.specs.Rules.{misplaced, malformed}
+use Rattle.form.specs.declared.life.Life.TheVariants.{Unborn}
 use Rattle.form.specs.Turns.{turn}
-use Rattle.form.specs.Lives.{subject, happens, spawned, life_of, life, next, concerns_life, misfits}
-use Rattle.form.proofs.Fields.{subject-small}
+use Rattle.form.specs.Lives.{subject, happens, spawned, life_of, life, Lived, next, concerns_life, misfits}
 use Rattle.form.proofs.Found.{some_next, some_quiet}
-use Rattle.form.proofs.Layouts.{thread_small}
-use Rattle.form.proofs.Tables.{Table, fresh, stays, put}
-use Rattle.form.proofs.Turning.{asked}
-
--- what the loop knows when n turns have passed
-abbrev pub Lived : List Record → ℕ → List Life → Type 0
-Lived xs n lives = Clear (misfits xs) n × Table (λ u. life xs u n) Unborn 8 lives
-
--- thread 0 starts ready, the others unborn
-pub born : (xs : List Record) → Table (λ u. life xs u 0) Unborn 8 (set (replicate 8 Unborn) 0 Ready)
-born xs = put (λ _. Unborn) (λ u. life xs u 0) Unborn 8 (replicate 8 Unborn) (fresh (λ _. Unborn) Unborn Unborn 8 (λ _. refl)) 0 Ready (omega arith) refl (λ u ne. grind (arith, nat_tests))
+use Rattle.form.proofs.Tables.{stays, put}
 
 -- a letter that fits makes of the three flags what it makes of the state
 flags : (e b s : Bool) (c : ℕ) (state : Life) → Some state ≡ next (life_of e b s) c → life_of (e || eqb c (letter "E")) (b || eqb c (letter "B")) (s || eqb c (letter "S")) ≡ state
@@ -33,11 +19,6 @@ flags true b s c state h = grind (arith, nat_tests)
 flags false true s c state h = grind (arith, nat_tests)
 flags false false true c state h = grind (arith, nat_tests)
 flags false false false c state h = grind (arith, nat_tests)
-
--- the thread that a record in form concerns is one of the eight
-pub subject-index : (xs : List Record) (k u : ℕ) → Clear (misplaced xs) (length xs) → Clear (malformed xs) (length xs) → k < length xs → Some u ≡ cond (concerns_life (at xs k).letter) (Some (subject (at xs k))) None → u < 8
-subject-index xs k u g f l who =
-    subst (λ v. v < 8) (sym (asked (concerns_life (at xs k).letter) (subject (at xs k)) u who).1) (subject-small (at xs k) (f k l) (thread_small xs g k l))
 
 -- r comes when n turns have passed
 module _ (xs : List Record) (n : ℕ) (r : Record) (is : turn xs n ≡ r) where
@@ -67,32 +48,28 @@ module _ (xs : List Record) (n : ℕ) (r : Record) (is : turn xs n ≡ r) where
       s = ap (λ b. eqb (subject r) 0 || b) (one (letter "S")) ∙ sym (or_assoc (eqb (subject r) 0) _ _)
 
   module _ (lives : List Life) (l : Lived xs n lives) where
-    pub life-passes : concerns_life r.letter ≡ false → Lived xs (n + 1) lives
+    -- a letter that concerns no life fits, and changes none
+    pub life-passes : concerns_life r.letter ≡ false → (true ≡ not (misfits xs n)) × Lived xs (n + 1) lives
     life-passes e = (
-      clear-more (misfits xs) n l.0 (sym (misfits_is ∙ and_left _ _ e)),
-      stays (λ u. life xs u n) (λ u. life xs u (n + 1)) Unborn 8 lives l.1 (λ u. life-stays u (λ c t. happens_is c u ∙ and_left _ _ (other c t))),
+      ap not (sym (misfits_is ∙ and_left _ _ e)),
+      stays (λ u. life xs u n) (λ u. life xs u (n + 1)) Unborn 8 lives l (λ u. life-stays u (λ c t. happens_is c u ∙ and_left _ _ (other c t))),
     )
       where
         other : (c : ℕ) → concerns_life c ≡ true → eqb r.letter c ≡ false
         other c t = ne_eqb _ c (λ same. both_ways (concerns_life c) (ap concerns_life (sym same) ∙ e) t)
 
-    module _ (u : ℕ) (who : Some u ≡ cond (concerns_life r.letter) (Some (subject r)) None) (small : u < 8) where
-      concerns : (concerns_life r.letter ≡ true) × (u ≡ subject r)
-      concerns = asked (concerns_life r.letter) (subject r) u who
-
+    -- one that fits the thread it concerns moves that thread alone
+    module _ (u : ℕ) (concerns : concerns_life r.letter ≡ true) (who : u ≡ subject r) (small : u < 8) where
       state_is : next (get_or lives u Unborn) r.letter ≡ next (life xs (subject r) n) r.letter
-      state_is = ap (λ s. next s r.letter) (l.1.1 u small ∙ ap (λ v. life xs v n) concerns.1)
+      state_is = ap (λ s. next s r.letter) (l.1 u small ∙ ap (λ v. life xs v n) who)
 
       judged : misfits xs n ≡ not (is_some (next (get_or lives u Unborn) r.letter))
-      judged = misfits_is ∙ ap (λ b. b && not (is_some (next (life xs (subject r) n) r.letter))) concerns.0 ∙ ap (λ o. not (is_some o)) (sym state_is)
+      judged = misfits_is ∙ ap (λ b. b && not (is_some (next (life xs (subject r) n) r.letter))) concerns ∙ ap (λ o. not (is_some o)) (sym state_is)
 
-      pub life_misfit : None ≡ next (get_or lives u Unborn) r.letter → true ≡ misfits xs n
-      life_misfit e = ap (λ o. not (is_some o)) e ∙ sym judged
-
-      pub life-next : (state : Life) → Some state ≡ next (get_or lives u Unborn) r.letter → Lived xs (n + 1) (set lives u state)
+      pub life-next : (state : Life) → Some state ≡ next (get_or lives u Unborn) r.letter → (true ≡ not (misfits xs n)) × Lived xs (n + 1) (set lives u state)
       life-next state e = (
-        clear-more (misfits xs) n l.0 (ap (λ o. not (is_some o)) e ∙ sym judged),
-        put (λ v. life xs v n) (λ v. life xs v (n + 1)) Unborn 8 lives l.1 u state small
-            (ap (λ v. life xs v (n + 1)) concerns.1 ∙ life-moves state (e ∙ state_is))
-            (λ v ne. life-stays v (λ c t. happens_is c v ∙ and_right _ _ (ne_eqb _ v (λ same. ne (sym same ∙ sym concerns.1))))),
+        ap not (ap (λ o. not (is_some o)) e ∙ sym judged),
+        put (λ v. life xs v n) (λ v. life xs v (n + 1)) Unborn 8 lives l u state small
+            (ap (λ v. life xs v (n + 1)) who ∙ life-moves state (e ∙ state_is))
+            (λ v ne. life-stays v (λ c t. happens_is c v ∙ and_right _ _ (ne_eqb _ v (λ same. ne (sym same ∙ sym who))))),
       )

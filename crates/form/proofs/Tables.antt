@@ -1,5 +1,5 @@
 -- How a loop keeps a table: what stands at each key, when one entry is written and when none is.
-use Rattle.std.proofs.Common.{◌≡◌, ℕ, ◌+◌, ◌<◌, Bool, true, false, cond, eqb, List, length, get_or, take, set, replicate, sym, refl, ap, ◌∙◌, ⊎_elim, arith}
+use Rattle.std.proofs.Common.{◌≡◌, ℕ, ◌+◌, ◌<◌, Bool, true, false, cond, ◌||◌, eqb, List, length, get_or, take, set, replicate, sym, refl, ap, ◌∙◌, ⊎_elim, arith}
 use Rattle.std.proofs.lemmas.List.Filters.{length-filter_more}
 use Rattle.std.proofs.lemmas.List.{length-set, length-replicate, get_or-replicate, get_or-set_same, get_or-set_other}
 use Rattle.std.proofs.lemmas.Bool.{cases_eq, or_right, eq-eqb, ne_eqb, cond-true, cond-false}
@@ -33,14 +33,16 @@ module _ {X : Type 0} (g h : ℕ → X) (d : X) (n : ℕ) (ts : List X) (t : Tab
 abbrev pub Marks : (ℕ → ℕ → Bool) → ℕ → ℕ → List Bool → Type 0
 Marks f n k ts = Table (λ x. some (f x) k) false n ts
 
-module _ (f : ℕ → ℕ → Bool) (n k : ℕ) (ts : List Bool) (t : Marks f n k ts) where
-  pub marks_stay : ((x : ℕ) → f x k ≡ false) → Marks f n (k + 1) ts
-  marks_stay none = stays (λ x. some (f x) k) (λ x. some (f x) (k + 1)) false n ts t (λ x. some_quiet (f x) k (none x))
+-- the place k marks at most the key i
+module _ (f : ℕ → ℕ → Bool) (n k : ℕ) (ts : List Bool) (t : Marks f n k ts) (i : ℕ) (l : i < n) (else : (x : ℕ) → (x ≡ i → ⊥) → f x k ≡ false) where
+  next_marks : (v : Bool) → (some (f i) k || f i k) ≡ v → Marks f n (k + 1) (set ts i v)
+  next_marks v e = put (λ x. some (f x) k) (λ x. some (f x) (k + 1)) false n ts t i v l (some_next (f i) k ∙ e) (λ x ne. some_quiet (f x) k (else x ne))
 
-  -- the place marks the key i and no other
-  pub marks-put : (i : ℕ) → i < n → f i k ≡ true → ((x : ℕ) → (x ≡ i → ⊥) → f x k ≡ false) → Marks f n (k + 1) (set ts i true)
-  marks-put i l here else =
-      put (λ x. some (f x) k) (λ x. some (f x) (k + 1)) false n ts t i true l (some_next (f i) k ∙ or_right _ _ here) (λ x ne. some_quiet (f x) k (else x ne))
+  pub marks-put : f i k ≡ true → Marks f n (k + 1) (set ts i true)
+  marks-put here = next_marks true (or_right _ _ here)
+
+  pub marks-or : (b : Bool) → f i k ≡ b → Marks f n (k + 1) (set ts i (get_or ts i false || b))
+  marks-or b e = next_marks _ (λ j. sym (t.1 i l) j || e j)
 
 -- ── Counts ──
 -- how many of the first k records each of the eight threads has

@@ -75,7 +75,7 @@ module _ (xs : List Record) (formed : Clear (malformed xs) (length xs)) (timed :
   turn_rises s t j k l e a b = (apart s t j k l a b).1 e
 
   -- ── No turn is left out: if one were, there would be fewer capitals than turns ──
-  takes : (t k : ℕ) → k < length xs → has_turn xs t k ≡ true → Takes xs t k
+  pub takes : (t k : ℕ) → k < length xs → has_turn xs t k ≡ true → Takes xs t k
   takes t k l h = let p = and_parts _ _ h in (l, p.0, eqb-true _ _ p.1)
 
   of_few : (t : ℕ) → of t xs ≤ 1

@@ -8,6 +8,13 @@ use Rattle.records.specs.Names.{below}
 abbrev pub starts_of : List Record → List ℕ
 starts_of xs = map (λ t. below t xs) (range_with_len 0 9)
 
+-- where the records of thread t start and end, of any thread that a number names
+abbrev pub from : List ℕ → ℕ → ℕ
+from starts t = cond (nat_lt t 8) (slice_index starts t) 0
+
+abbrev pub upto : List ℕ → ℕ → ℕ
+upto starts t = cond (nat_lt t 8) (slice_index starts (suc t)) 0
+
 -- the index at place p of thread t, if the thread is so long
 abbrev pub slot : List ℕ → ℕ → ℕ → Option ℕ
 slot starts t p =

@@ -1,5 +1,5 @@
 -- 17: the life of a thread, along the turns.
-use Rattle.std.specs.Prelude.{ℕ, Bool, cond, not, ◌&&◌, ◌||◌, List, is_some, Some, None, codes, Option, ◌==◌}
+use Rattle.std.specs.Prelude.{◌≡◌, ℕ, ◌<◌, Bool, cond, not, ◌&&◌, ◌||◌, List, length, is_some, Some, None, codes, Option, ◌==◌, slice_index_or}
 use Rattle.records.specs.declared.Record.{Record}
 use Rattle.records.specs.First.{some}
 use Rattle.records.specs.Letters.{letter, among}
@@ -31,6 +31,10 @@ life_of hasEnded hasBegun isSpawned = cond hasEnded Ended (cond hasBegun Running
 -- the state of thread u after n turns
 abbrev pub life : List Record → ℕ → ℕ → Life
 life xs u n = life_of (ended xs u n) (begun xs u n) (spawned xs u n)
+
+-- the states of the eight threads after n turns
+abbrev pub Lived : List Record → ℕ → List Life → Type 0
+Lived xs n lives = (length lives ≡ 8) × ((u : ℕ) → u < 8 → slice_index_or lives u Unborn ≡ life xs u n)
 
 -- what a letter turns a state into, where they fit; only S, J, B and E concern a thread's life
 abbrev pub next : Life → ℕ → Option Life

@@ -1,5 +1,5 @@
 -- 18: who holds a monitor, along the turns.
-use Rattle.std.specs.Prelude.{ℕ, zero, suc, Bool, false, cond, not, ◌&&◌, List, is_some, Some, None, Option, ◌==◌}
+use Rattle.std.specs.Prelude.{◌≡◌, ℕ, zero, suc, ◌<◌, Bool, false, cond, not, ◌&&◌, List, length, is_some, Some, None, Option, ◌==◌, slice_index_or}
 use Rattle.records.specs.declared.Record.{Record}
 use Rattle.records.specs.Letters.{letter}
 use Rattle.form.specs.Turns.{turn}
@@ -14,6 +14,10 @@ held_after r m h =
 abbrev pub holder : List Record → ℕ → ℕ → Option ℕ
 holder xs m zero = None
 holder xs m (suc n) = held_after (turn xs n) m (holder xs m n)
+
+-- who holds each of the sixteen monitors after n turns
+abbrev pub Held : List Record → ℕ → List (Option ℕ) → Type 0
+Held xs n holders = (length holders ≡ 16) × ((m : ℕ) → m < 16 → slice_index_or holders m None ≡ holder xs m n)
 
 abbrev pub holds : ℕ → Option ℕ → Bool
 holds t None = false

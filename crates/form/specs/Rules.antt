@@ -1,5 +1,5 @@
 -- The rules that are looked for along the list of records: for each, whether the record at k breaks it.
-use Rattle.std.specs.Prelude.{ℕ, zero, suc, Bool, false, cond, not, ◌&&◌, ◌||◌, List, length, Some, None, codes, filter, Option, ◌==◌, nat_le, nat_lt}
+use Rattle.std.specs.Prelude.{◌≡◌, ℕ, zero, suc, ◌<◌, Bool, true, false, cond, not, ◌&&◌, ◌||◌, List, length, Some, None, codes, filter, Option, ◌==◌, nat_le, nat_lt}
 use Rattle.records.specs.declared.Record.{Record}
 use Rattle.records.specs.First.{some}
 use Rattle.records.specs.Letters.{letter, among, is_capital, is_plain, is_volatile, is_read, is_write}
@@ -47,6 +47,10 @@ well_formed r =
 
 abbrev pub malformed : List Record → ℕ → Bool
 malformed xs k = not (well_formed (at xs k))
+
+-- what 11 and 12 leave of a record alone: one of the eight threads, and fields as the letter says
+abbrev pub InRange : Record → Type 0
+InRange r = (r.thread < 8) × (well_formed r ≡ true)
 
 -- ── 13: plain and volatile locations do not mix ──
 -- an access of this sort to location x

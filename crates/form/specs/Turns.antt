@@ -1,5 +1,5 @@
 -- The capitals of a case in the order of their turns. Turn n + 1 is the one that comes when n turns have passed.
-use Rattle.std.specs.Prelude.{ℕ, suc, Bool, ◌&&◌, List, length, Some, None, Option, ◌==◌}
+use Rattle.std.specs.Prelude.{◌≡◌, ℕ, suc, ◌+◌, Bool, true, not, ◌&&◌, List, length, Some, None, Option, ◌==◌}
 use Rattle.records.specs.declared.Record.{Record}
 use Rattle.records.specs.First.{first}
 use Rattle.records.specs.Letters.{is_capital}
@@ -24,3 +24,9 @@ turn xs n = record_at xs (place_of xs n)
 abbrev pub placed : List Record → Option ℕ → Option ℕ
 placed xs None = None
 placed xs (Some n) = place_of xs n
+
+-- whichever turn a record comes at: it fits if it does not break the rule, and then what is kept is kept of that turn too
+abbrev pub Follows : {S : Type 0} → (List Record → ℕ → Bool) → (List Record → ℕ → S → Type 0) → Record → S → Bool → S → Type 0
+Follows breaks Kept r before fits after =
+    (xs : List Record) (n : ℕ) → turn xs n ≡ r → Kept xs n before
+    → (fits ≡ not (breaks xs n)) × (fits ≡ true → Kept xs (n + 1) after)

@@ -1,11 +1,11 @@
 // 17: the life of the threads, along the turns.
-ghost use Rattle.std.specs.Prelude.{◌≡◌, ℕ, ◌<◌, ◌≤◌, length, if◌then◌else◌, Some, None, slice_index_or};
-ghost use Rattle.records.specs.First.{Clear};
-ghost use Rattle.form.specs.Form.{along_turns};
-ghost use Rattle.form.specs.Lives.{misfits, next, concerns_life, subject as subject_of};
-ghost use Rattle.form.specs.Rules.{misplaced, malformed, capitals};
-ghost use Rattle.form.specs.Turns.{place_of};
+ghost use Rattle.std.specs.Prelude.{◌≡◌, if◌then◌else◌, Some, None};
+ghost use Rattle.records.specs.Refusals.{refuse};
+ghost use Rattle.form.specs.Form.{along_turns, refusal_in};
+ghost use Rattle.form.specs.Lives.{Lived, misfits, next, concerns_life, subject as subject_of};
 
+use crate::fault::FormFault;
+use crate::turns::{TurnRule, Turns};
 use records::Record;
 
 #[derive(Clone, Copy, Debug, PartialEq)]
@@ -15,6 +15,10 @@ pub enum Life {
     Running,
     Ended,
 }
+
+// The state of each thread.
+#[derive(Clone, Copy)]
+pub(crate) struct Lives([Life; 8]);
 
 // What a letter turns a thread's state into, where the two fit.
 fn next_life(state: Life, letter: char) -> Option<Life>
@@ -40,32 +44,36 @@ fn subject(r: &Record) -> Option<u8>
     }
 }
 
-pub(crate) fn first_misfit(
-    records: &[Record],
-    order: &[Option<u8>; 256],
-    all: usize,
-) -> Option<usize>
-    requires grouped { Clear (misplaced records.now) (length records.now) }
-    requires formed { Clear (malformed records.now) (length records.now) }
-    requires order { (n : ℕ) → n < 256 → slice_index_or order.now n None ≡ place_of records.now n }
-    requires all { all ≡ capitals records.now }
-    requires few { all ≤ 256 }
-    ensures { result ≡ along_turns misfits records.now }
-{
-    let mut lives = [Life::Unborn; 8];
-    lives[0] = Life::Ready;
-    for n in 0..all {
-        let Some(k) = order[n] else {
-            continue;
-        };
-        let r = &records[k as usize];
+impl TurnRule for Lives {
+    ghost breaks = { misfits };
+
+    ghost Kept = { λ xs n lives. Lived xs n lives.0 };
+
+    fn new() -> Self {
+        let mut lives = [Life::Unborn; 8];
+        lives[0] = Life::Ready;
+        Lives(lives)
+    }
+
+    fn admits(&mut self, r: &Record) -> bool {
         let Some(thread) = subject(r) else {
-            continue;
+            return true;
         };
-        match next_life(lives[thread as usize], r.letter) {
-            Some(state) => lives[thread as usize] = state,
-            None => return Some(k as usize),
+        match next_life(self.0[thread as usize], r.letter) {
+            Some(state) => {
+                self.0[thread as usize] = state;
+                true
+            }
+            None => false,
         }
     }
-    None
+}
+
+// 17
+pub(crate) fn check_lives(turns: &Turns) -> Result<(), FormFault>
+    ensures { refusal_in result ≡ refuse 17 (along_turns misfits turns.now.formed.records.now) None }
+{
+    turns
+        .first_break::<Lives>()
+        .map_or(Ok(()), |k| Err(FormFault::Life(k)))
 }

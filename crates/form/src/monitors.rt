@@ -1,13 +1,17 @@
 // 18: who holds each monitor, along the turns.
-ghost use Rattle.std.specs.Prelude.{◌≡◌, ℕ, ◌<◌, ◌≤◌, length, if◌then◌else◌, Some, None, codes, nat_eq, slice_index_or};
-ghost use Rattle.records.specs.First.{Clear};
+ghost use Rattle.std.specs.Prelude.{◌≡◌, if◌then◌else◌, Some, None, codes, nat_eq};
 ghost use Rattle.records.specs.Letters.{letter as code, among};
-ghost use Rattle.form.specs.Form.{along_turns};
-ghost use Rattle.form.specs.Monitors.{locks_wrongly, mislocks};
-ghost use Rattle.form.specs.Rules.{malformed, capitals};
-ghost use Rattle.form.specs.Turns.{place_of};
+ghost use Rattle.records.specs.Refusals.{refuse};
+ghost use Rattle.form.specs.Form.{along_turns, refusal_in};
+ghost use Rattle.form.specs.Monitors.{Held, locks_wrongly, mislocks};
 
+use crate::fault::FormFault;
+use crate::turns::{TurnRule, Turns};
 use records::Record;
+
+// The thread that holds each monitor.
+#[derive(Clone, Copy)]
+pub(crate) struct Holders([Option<u8>; 16]);
 
 // The monitor that a record locks or unlocks.
 fn monitor(r: &Record) -> Option<u8>
@@ -34,37 +38,35 @@ fn locks_wrongly(r: &Record, held: Option<u8>) -> bool
 fn holder_after(r: &Record) -> Option<u8>
     ensures { result ≡ (if nat_eq r.now.letter (code "L") then Some r.now.thread else None) }
 {
-    if r.letter == 'L' {
-        Some(r.thread)
-    } else {
-        None
+    (r.letter == 'L').then_some(r.thread)
+}
+
+impl TurnRule for Holders {
+    ghost breaks = { mislocks };
+
+    ghost Kept = { λ xs n holders. Held xs n holders.0 };
+
+    fn new() -> Self {
+        Holders([None; 16])
+    }
+
+    fn admits(&mut self, r: &Record) -> bool {
+        let Some(m) = monitor(r) else {
+            return true;
+        };
+        if locks_wrongly(r, self.0[m as usize]) {
+            return false;
+        }
+        self.0[m as usize] = holder_after(r);
+        true
     }
 }
 
-pub(crate) fn first_mislock(
-    records: &[Record],
-    order: &[Option<u8>; 256],
-    all: usize,
-) -> Option<usize>
-    requires formed { Clear (malformed records.now) (length records.now) }
-    requires order { (n : ℕ) → n < 256 → slice_index_or order.now n None ≡ place_of records.now n }
-    requires all { all ≡ capitals records.now }
-    requires few { all ≤ 256 }
-    ensures { result ≡ along_turns mislocks records.now }
+// 18
+pub(crate) fn check_monitors(turns: &Turns) -> Result<(), FormFault>
+    ensures { refusal_in result ≡ refuse 18 (along_turns mislocks turns.now.formed.records.now) None }
 {
-    let mut holders: [Option<u8>; 16] = [None; 16];
-    for n in 0..all {
-        let Some(k) = order[n] else {
-            continue;
-        };
-        let r = &records[k as usize];
-        let Some(m) = monitor(r) else {
-            continue;
-        };
-        if locks_wrongly(r, holders[m as usize]) {
-            return Some(k as usize);
-        }
-        holders[m as usize] = holder_after(r);
-    }
-    None
+    turns
+        .first_break::<Holders>()
+        .map_or(Ok(()), |k| Err(FormFault::Monitor(k)))
 }

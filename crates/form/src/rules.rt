@@ -1,106 +1,26 @@
-// The rules along the list that need no look at turns or names: 11, 12, 13 and 16.
-ghost use Rattle.std.specs.Prelude.{◌≡◌, ◌<◌, not, ◌||◌, length, if◌then◌else◌, ◌==◌};
-ghost use Rattle.records.specs.First.{Clear};
-ghost use Rattle.records.specs.Letters.{letter as code};
-ghost use Rattle.form.specs.Form.{along_list};
-ghost use Rattle.form.specs.Rules.{stray as is_stray, misplaced, limit, turn_fits, well_formed, malformed, mixed, misframed};
+// The rules along the list that lean on 11 and 12 alone: 13, 14 and 16.
+ghost use Rattle.std.specs.Prelude.{◌≡◌, ◌<◌, not, ◌||◌, ◌&&◌, length, if◌then◌else◌, ◌==◌, None, IfSome};
+ghost use Rattle.records.specs.Letters.{letter as code, is_plain, is_volatile, is_write};
+ghost use Rattle.records.specs.Names.{record_named};
+ghost use Rattle.records.specs.Refusals.{refuse};
+ghost use Rattle.form.specs.Form.{along_list, refusal_in};
+ghost use Rattle.form.specs.Rules.{mixed, saw_no_write, sees_no_write, misframed};
 
+use crate::fault::FormFault;
+use crate::formed::WellFormed;
 use records::Record;
 
-fn stray(k: usize, thread: u8, last: u8) -> bool
-    ensures { result ≡ is_stray k thread last }
+fn writes_to(r: &Record, location: u8) -> bool
+    ensures { result ≡ (is_write r.now.letter && r.now.target == location) }
 {
-    k >= 256 || thread > 7 || thread < last
+    r.is_write() && r.target == location
 }
 
-// 11
-pub(crate) fn first_misplaced(records: &[Record]) -> Option<usize>
-    ensures { result ≡ along_list misplaced records.now }
+// Whether a record accesses as one sort a location that has been accessed as the other.
+fn mixes(r: &Record, plain: bool, volatile: bool) -> bool
+    ensures { result ≡ ((is_plain r.now.letter && volatile) || (is_volatile r.now.letter && plain)) }
 {
-    let mut counts = [0u8; 8];
-    let mut last = 0;
-    for (k, r) in records.iter().enumerate() {
-        if stray(k, r.thread, last) {
-            return Some(k);
-        }
-        let count = counts[r.thread as usize];
-        if count >= 64 {
-            return Some(k);
-        }
-        counts[r.thread as usize] = count + 1;
-        last = r.thread;
-    }
-    None
-}
-
-fn target_limit(letter: char) -> Option<u8>
-    ensures { result ≡ limit letter }
-{
-    match letter {
-        'r' | 'w' | 'R' | 'W' => Some(63),
-        'L' | 'U' => Some(15),
-        'S' | 'J' => Some(7),
-        'B' | 'E' => Some(0),
-        _ => None,
-    }
-}
-
-fn turn_fits(r: &Record) -> bool
-    ensures { result ≡ turn_fits r.now }
-{
-    if r.is_capital() {
-        r.turn >= 1 && r.turn <= 256
-    } else {
-        r.turn == 0
-    }
-}
-
-fn well_formed(r: &Record) -> bool
-    ensures { result ≡ well_formed r.now }
-{
-    let Some(most) = target_limit(r.letter) else {
-        return false;
-    };
-    r.target <= most
-        && (r.is_write() || r.value == 0)
-        && (r.is_read() || r.seen == 0)
-        && turn_fits(r)
-}
-
-// 12
-pub(crate) fn first_malformed(records: &[Record]) -> Option<usize>
-    ensures { result ≡ along_list malformed records.now }
-{
-    for (k, r) in records.iter().enumerate() {
-        if !well_formed(r) {
-            return Some(k);
-        }
-    }
-    None
-}
-
-// 13
-pub(crate) fn first_mixed(records: &[Record]) -> Option<usize>
-    requires { Clear (malformed records.now) (length records.now) }
-    ensures { result ≡ along_list mixed records.now }
-{
-    let mut plain = [false; 64];
-    let mut volatile = [false; 64];
-    for (k, r) in records.iter().enumerate() {
-        let x = r.target as usize;
-        if r.is_plain() {
-            if volatile[x] {
-                return Some(k);
-            }
-            plain[x] = true;
-        } else if r.is_volatile() {
-            if plain[x] {
-                return Some(k);
-            }
-            volatile[x] = true;
-        }
-    }
-    None
+    r.is_plain() && volatile || r.is_volatile() && plain
 }
 
 // Whether a letter is B although its thread has begun, or another before it has, or comes after the thread's end.
@@ -110,22 +30,66 @@ fn misframes(letter: char, begun: bool, ended: bool) -> bool
     begun == (letter == 'B') || ended
 }
 
-// 16
-pub(crate) fn first_misframed(records: &[Record]) -> Option<usize>
-    requires { Clear (misplaced records.now) (length records.now) }
-    ensures { result ≡ along_list misframed records.now }
-{
-    let mut begun = [false; 8];
-    let mut ended = [false; 8];
-    for (k, r) in records.iter().enumerate() {
-        let t = r.thread as usize;
-        if misframes(r.letter, begun[t], ended[t]) {
-            return Some(k);
+impl WellFormed<'_> {
+    // 13
+    pub(crate) fn check_locations(&self) -> Result<(), FormFault>
+        ensures { refusal_in result ≡ refuse 13 (along_list mixed self.now.records.now) None }
+    {
+        let mut plain = [false; 64];
+        let mut volatile = [false; 64];
+        for (k, r) in self.records.iter().enumerate() {
+            let x = r.target as usize;
+            if mixes(r, plain[x], volatile[x]) {
+                return Err(FormFault::MixedLocation(k));
+            }
+            plain[x] |= r.is_plain();
+            volatile[x] |= r.is_volatile();
         }
-        begun[t] = true;
-        if r.letter == 'E' {
-            ended[t] = true;
-        }
+        Ok(())
     }
-    None
+
+    // The index of the record that has a name.
+    fn find(&self, name: u16) -> Option<usize>
+        ensures value { result ≡ record_named self.now.records.now name }
+        ensures within { IfSome result (λ k. k < length self.now.records.now) }
+    {
+        self.layout.find(name)
+    }
+
+    fn sees_no_write(&self, r: &Record) -> bool
+        ensures { result ≡ sees_no_write self.now.records.now r.now }
+    {
+        r.is_read()
+            && r.seen != 512 + u16::from(r.target)
+            && !self
+                .find(r.seen)
+                .is_some_and(|j| writes_to(&self.records[j], r.target))
+    }
+
+    // 14
+    pub(crate) fn check_reads(&self) -> Result<(), FormFault>
+        ensures { refusal_in result ≡ refuse 14 (along_list saw_no_write self.now.records.now) None }
+    {
+        self.records
+            .iter()
+            .position(|r| self.sees_no_write(r))
+            .map_or(Ok(()), |k| Err(FormFault::UnknownWrite(k)))
+    }
+
+    // 16
+    pub(crate) fn check_frames(&self) -> Result<(), FormFault>
+        ensures { refusal_in result ≡ refuse 16 (along_list misframed self.now.records.now) None }
+    {
+        let mut begun = [false; 8];
+        let mut ended = [false; 8];
+        for (k, r) in self.records.iter().enumerate() {
+            let t = r.thread as usize;
+            if misframes(r.letter, begun[t], ended[t]) {
+                return Err(FormFault::Frame(k));
+            }
+            begun[t] = true;
+            ended[t] |= r.letter == 'E';
+        }
+        Ok(())
+    }
 }

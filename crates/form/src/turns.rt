@@ -1,25 +1,43 @@
-// The rules on turns: 15 along the list, then 17 and 18 along the turns.
-ghost use Rattle.std.specs.Prelude.{◌≡◌, ℕ, ◌<◌, ◌≤◌, length, None, slice_index_or};
-ghost use Rattle.records.specs.First.{Clear};
-ghost use Rattle.form.specs.Form.{along_list, refusal_in, turn_refusal};
-ghost use Rattle.form.specs.Rules.{misplaced, malformed, capitals, clashes, mistimed};
-ghost use Rattle.form.specs.Turns.{place_of};
+// 15: which record takes each turn; and how a rule is looked for along the turns.
+ghost use Rattle.std.specs.Prelude.{◌≡◌, ℕ, ◌<◌, ◌≤◌, Bool, List, ◌&&◌, ◌||◌, length, Some, None, IfOk, nat_lt, slice_index};
+ghost use Rattle.std.specs.List.{list_any};
+ghost use Rattle.records.specs.declared.Record.{Record};
+ghost use Rattle.records.specs.Letters.{is_capital};
+ghost use Rattle.records.specs.Refusals.{refuse};
+ghost use Rattle.form.specs.Form.{along_list, along_turns, refusal_in};
+ghost use Rattle.form.specs.Rules.{capitals, clashes, mistimed, InRange};
+ghost use Rattle.form.specs.Turns.{place_of, Follows};
 
 use crate::fault::FormFault;
-use crate::{life, monitors};
+use crate::formed::WellFormed;
 use records::Record;
 
-fn count_capitals(records: &[Record]) -> usize
-    ensures value { result ≡ capitals records.now }
-    ensures bound { result ≤ length records.now }
-{
-    let mut n: usize = 0;
-    for r in records {
-        if r.is_capital() {
-            n += 1;
-        }
-    }
-    n
+// The turns of records that keep rules 11, 12 and 15: the index of the record that takes each, from turn 1 on.
+#[derive(Clone, Copy)]
+pub(crate) struct Turns<'a> {
+    pub(crate) formed: WellFormed<'a>,
+    takers: [u8; 256],
+    count: usize,
+    ghost within: { count ≤ length takers },
+    ghost all: { count ≡ capitals formed.records.now },
+    ghost taken: { (n : ℕ) → n < count → place_of formed.records.now n ≡ Some (slice_index takers n) },
+}
+
+// A rule that is looked for along the turns, by what is kept of those that have passed.
+pub(crate) trait TurnRule: Drop {
+    // whether the turn that comes when n have passed breaks the rule, and what is then kept
+    ghost breaks: { List Record → ℕ → Bool };
+
+    ghost Kept: { List Record → ℕ → Self → Type 0 };
+
+    // Before the first turn.
+    fn new() -> Self
+        ensures { (xs : List Record) → Kept xs 0 result };
+
+    // Whether the record that comes fits, which is then taken in.
+    fn admits(&mut self, r: &Record) -> bool
+        requires { InRange r.now }
+        ensures { Follows breaks Kept r.now self.old result self.new };
 }
 
 // Whether y, an earlier record, takes the turn of x or a later one of the same thread.
@@ -29,61 +47,69 @@ fn clash(x: &Record, y: &Record) -> bool
     y.is_capital() && (x.turn == y.turn || x.thread == y.thread && x.turn < y.turn)
 }
 
-// 15
-pub(crate) fn first_mistimed(records: &[Record]) -> Option<usize>
+fn count_capitals(records: &[Record]) -> usize
+    ensures { result ≡ capitals records.now }
+{
+    records.iter().filter(|r| r.is_capital()).count()
+}
+
+fn clashes_with(x: &Record, earlier: &[Record]) -> bool
+    ensures { result ≡ list_any (clashes x.now) earlier.now }
+{
+    earlier.iter().any(|y| clash(x, y))
+}
+
+// Whether a capital has a turn above the number of capitals, or clashes with an earlier record.
+fn mistimes(x: &Record, earlier: &[Record], capitals: usize) -> bool
+    ensures { result ≡ (is_capital x.now.letter && (nat_lt capitals x.now.turn || list_any (clashes x.now) earlier.now)) }
+{
+    x.is_capital() && (x.turn as usize > capitals || clashes_with(x, earlier))
+}
+
+fn first_mistimed(records: &[Record]) -> Option<usize>
     ensures { result ≡ along_list mistimed records.now }
 {
-    let all = count_capitals(records);
-    let mut repeat = None;
-    'records: for k in 0..records.len() {
-        if !records[k].is_capital() {
-            continue;
-        }
-        if records[k].turn as usize > all {
-            repeat = Some(k);
-            break 'records;
-        }
-        for j in 0..k {
-            if clash(&records[k], &records[j]) {
-                repeat = Some(k);
-                break 'records;
-            }
-        }
-    }
-    repeat
+    let capitals = count_capitals(records);
+    records
+        .iter()
+        .enumerate()
+        .position(|(k, x)| mistimes(x, &records[..k], capitals))
 }
 
-// The index of the record that takes each turn, from turn 1 on.
-fn order_of(records: &[Record]) -> [Option<u8>; 256]
-    requires few { length records.now ≤ 256 }
-    requires formed { Clear (malformed records.now) (length records.now) }
-    ensures { (n : ℕ) → n < 256 → slice_index_or result n None ≡ place_of records.now n }
-{
-    let mut order = [None; 256];
-    for (k, r) in records.iter().enumerate() {
-        if r.is_capital() {
-            let n = r.turn as usize - 1;
-            if order[n].is_none() {
-                order[n] = Some(k as u8);
+impl<'a> Turns<'a> {
+    // 15
+    pub(crate) fn check(formed: WellFormed<'a>) -> Result<Turns<'a>, FormFault>
+        ensures verdict { refusal_in result ≡ refuse 15 (along_list mistimed formed.entry.records.now) None }
+        ensures kept { IfOk result (λ t. t.formed.records.now ≡ formed.entry.records.now) }
+    {
+        if let Some(k) = first_mistimed(formed.records) {
+            return Err(FormFault::Turn(k));
+        }
+        let mut takers = [0u8; 256];
+        for (k, r) in formed.records.iter().enumerate() {
+            if r.is_capital() {
+                takers[r.turn as usize - 1] = k as u8;
             }
         }
+        let count = count_capitals(formed.records);
+        Ok(Turns {
+            formed,
+            takers,
+            count,
+        })
     }
-    order
-}
 
-// 17 and 18
-pub(crate) fn check_turns(records: &[Record]) -> Result<(), FormFault>
-    requires grouped { Clear (misplaced records.now) (length records.now) }
-    requires formed { Clear (malformed records.now) (length records.now) }
-    ensures { refusal_in result ≡ turn_refusal records.now }
-{
-    let all = count_capitals(records);
-    let order = order_of(records);
-    if let Some(k) = life::first_misfit(records, &order, all) {
-        return Err(FormFault::Life(k));
+    // The record of the first turn that breaks a rule.
+    pub(crate) fn first_break<R: TurnRule>(&self) -> Option<usize>
+        ensures { result ≡ along_turns R.breaks self.now.formed.records.now }
+    {
+        let mut rule = R::new();
+        for k in &self.takers[..self.count] {
+            let k = usize::from(*k);
+            if !rule.admits(&self.formed.records[k]) {
+                return Some(k);
+            }
+        }
+        None
     }
-    if let Some(k) = monitors::first_mislock(records, &order, all) {
-        return Err(FormFault::Monitor(k));
-    }
-    Ok(())
 }

@@ -1,40 +1,33 @@
--- The two loops of rule 15: over the records, and over those before each.
-use Rattle.std.proofs.Common.{◌<◌, ◌≤◌, sym, ◌∙◌, arith}
-use Rattle.std.proofs.lemmas.Bool.{and_from, and_left, and_right, or_from, or_left, or_right, lt-ltb, le-ltb}
-use Rattle.records.specs.Names.{at}
-use Rattle.records.proofs.Firsts.{clear-more, first_some, first-none, some-found, some-none}
-use Rattle.form.specs.Rules.{capitals}
+-- `position` finds the first record that is mistimed.
+use Rattle.std.proofs.Common.{rules, tests, ◌≡◌, ℕ, Bool, ◌&&◌, ◌||◌, ◌<◌, ltb, List, length, get_or, take, refl, ap, ◌∙◌, arith}
+use Rattle.std.specs.List.{enumerate_from, list_any}
+use Rattle.std.proofs.lemmas.List.FromFn.{length-enumerate_from, get_or-enumerate_from}
+use Rattle.std.proofs.lemmas.Iterator.{YieldsList-from_slice}
+use Rattle.std.proofs.lemmas.Iterator.Consumers.{YieldsList-at, YieldsList-from_enumerate}
+use Rattle.std.proofs.lemmas.Iterator.Search.{position_from_yields_List}
+use Rattle.records.specs.declared.Record.{Record}
+use Rattle.records.specs.Letters.{is_capital}
+use Rattle.records.specs.First.{first}
+use Rattle.records.specs.Names.{blank, at}
+use Rattle.form.specs.Rules.{capitals, clashes, mistimed}
+use Rattle.form.proofs.Positions.{first-position, some-any}
 use Rattle.form.proofs.turns.first_mistimed.Goals as goal
 
-pub loop-j-init : goal.loop-j-init
-loop-j-init c = (λ k l. absurd (omega arith), c.records.invariant.1)
+-- the record at k, with k beside it, is mistimed
+abbrev broken : List Record → ℕ → ℕ × Record → Bool
+broken xs capitals p = is_capital p.1.letter && (ltb capitals p.1.turn || list_any (clashes p.1) (take p.0 xs))
 
-pub loop-j-preserved : goal.loop-j-preserved
-loop-j-preserved c = (clear-more _ _ c.loop-j.invariant.0 c.if-clash.ensures, c.loop-j.invariant.1)
+is_broken : (xs : List Record) (k n : ℕ) → k < length xs → n ≡ capitals xs → broken xs n (get_or (enumerate_from 0 xs) k (0, blank)) ≡ mistimed xs k
+is_broken xs k n l e =
+    ap (broken xs n) (get_or-enumerate_from 0 xs k (0, blank) l)
+    ∙ ap (λ m. broken xs n (m, at xs k)) (omega arith)
+    ∙ (λ i. is_capital (at xs k).letter && (ltb (e i) (at xs k).turn || some-any (clashes (at xs k)) blank (λ j. clashes (at xs k) (at xs j)) k xs (omega arith) (λ j b. refl) i))
 
-pub records-preserved-then-not-is_capital : goal.records-preserved-then-not-is_capital
-records-preserved-then-not-is_capital c = (clear-more _ _ c.records.invariant.0 (sym (and_left _ _ (sym c.if-not-is_capital.ensures))), c.records.invariant.1)
-
-pub records-preserved : goal.records-preserved
-records-preserved c =
-    let low : (at c.args.records.now c.records.k).turn ≤ capitals c.args.records.now = omega (arith, c.if-records-k.false, c.count_capitals-all.ensures.value) in (
-      clear-more _ _ c.records.invariant.0
-          (sym (and_right _ _ (or_from _ _ (le-ltb _ _ low) (sym (some-none _ _ _ c.loop-j-test.false c.loop-j.invariant.0))))),
-      c.loop-j.invariant.1,
-    )
-
-pub returns-after-records : goal.returns-after-records
-returns-after-records c = c.records.invariant.1 ∙ first-none _ _ _ c.records-test.false c.records.invariant.0
-
-pub returns-then-records-k : goal.returns-then-records-k
-returns-then-records-k c =
-    let high : capitals c.args.records.now < (at c.args.records.now c.records.k).turn = omega (arith, c.if-records-k.true, c.count_capitals-all.ensures.value) in
-    first_some _ _ _ c.records-test.true
-    (sym (and_from _ _ (sym c.if-not-is_capital.ensures) (or_left _ _ (lt-ltb _ _ high))))
-    c.records.invariant.0
-
-pub returns-then-clash : goal.returns-then-clash
-returns-then-clash c =
-    first_some _ _ _ c.records-test.true
-    (sym (and_from _ _ (sym c.if-not-is_capital.ensures) (or_right _ _ (sym (some-found _ _ _ c.loop-j-test.true c.if-clash.ensures c.loop-j.invariant.0)))))
-    c.records.invariant.0
+pub returns : goal.returns
+returns c =
+    let xs = c.args.records.now in
+    let n = c.count_capitals-capitals.result in
+    position_from_yields_List (broken xs n) _ _ c.position.result c.position.ensures.ran
+    (YieldsList-from_enumerate (YieldsList-at c.enumerate.ensures.source (YieldsList-from_slice _ c.iter.ensures.rest)) c.enumerate.ensures.count) (λ x b q k. search (rules, tests))
+    ∙ first-position (broken xs n) (0, blank) (mistimed xs) (enumerate_from 0 xs) (λ k l. is_broken xs k n (omega (arith, length-enumerate_from 0 xs)) c.count_capitals-capitals.ensures)
+    ∙ ap (first (mistimed xs)) (length-enumerate_from 0 xs)

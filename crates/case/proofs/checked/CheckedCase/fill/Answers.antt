@@ -12,8 +12,8 @@ formed xs e = ap (λ o. not (is_some o)) (sym e)
 few : (xs : List Record) → None ≡ form_refusal xs → length xs ≤ 256
 few xs e = (lawful xs (formed xs e)).few
 
-pub padded-all-requires : goal.padded-all-requires
-padded-all-requires c = few c.args.records.now c.in_ok-layout.ensures.verdict
+pub padded-requires : goal.padded-requires
+padded-requires c = few c.args.records.now c.in_ok-layout.ensures.verdict
 
 pub overflow_cast-self : goal.overflow_cast-self
 overflow_cast-self c = record { fits = omega (arith, few c.args.records.now c.in_ok-layout.ensures.verdict) }
@@ -22,7 +22,7 @@ pub invariant_of-self : goal.invariant_of-self
 invariant_of-self c =
     let xs = c.args.records.now in
     let e = c.in_ok-layout.ensures.verdict in
-    let p = c.padded-all.ensures in
+    let p = c.padded.ensures in
     record {
       within = few xs e;
       formed = subst (λ l. in_form l ≡ true) (sym p) (formed xs e);

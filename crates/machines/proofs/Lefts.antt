@@ -1,18 +1,19 @@
 -- What is left of each thread's moved list, as the checker's table tells it, and what a move makes of it.
-use Rattle.std.proofs.Common.{◌≡◌, ℕ, zero, suc, ◌+◌, ◌-◌, ◌<◌, ◌≤◌, List, [], ◌∷◌, map, length, get_or, take, drop, set, replicate, Ok, Err, Result, unwrap_or, sym, refl, ap, ◌∙◌, ⊎_elim, arith}
+use Rattle.std.proofs.Common.{◌≡◌, ℕ, zero, suc, ◌+◌, ◌-◌, ◌<◌, ◌≤◌, Bool, List, [], ◌∷◌, map, length, get_or, take, drop, set, replicate, is_some, Some, None, Ok, Err, Result, unwrap_or, sym, refl, ap, ◌∙◌, ⊎_elim, arith}
 use mathlib.Core.Path.{fun_ext}
 use Rattle.std.specs.List.{slice_get}
 use Rattle.std.proofs.lemmas.List.{length-take, length-drop, length-map, nil_from_length, ext_get_or, get_or-set_same, get_or-set_other, get_or-map, get_or-take, get_or-replicate, drop_more, drop-take, drop-drop, take-take, take-map, drop-map, map-set}
-use Rattle.std.proofs.lemmas.Bool.{cases_eq, cases_lt, le-ltb, lt-ltb}
+use Rattle.std.proofs.lemmas.Bool.{cases_eq, cases_lt, le-ltb, lt-ltb, false≢true}
 use Rattle.records.specs.declared.action.Action.{Action}
 use Rattle.records.specs.declared.action.Action.TheVariants.{Sync}
 use Rattle.records.specs.declared.action.SyncOp.TheVariants.{End}
 use Rattle.records.specs.Names.{Case, thread}
 use Rattle.machines.specs.declared.lists.MovedList.{MovedList}
+use Rattle.machines.specs.declared.memory.Memory.{Memory}
 use Rattle.machines.specs.Certificate.{move_at, move_in}
-use Rattle.machines.specs.Lists.{action_at, come_of, places_of, left_of}
+use Rattle.machines.specs.Lists.{action_at, come_of, places_of, left_of, head_of, order_state}
 use Rattle.machines.specs.Machine.{answer}
-use Rattle.machines.specs.Memory.{upd}
+use Rattle.machines.specs.Memory.{upd, held}
 use Rattle.machines.specs.Moves.{shift}
 use Rattle.machines.proofs.Moves.{move-part, move_ok}
 use Rattle.machines.proofs.Shifts.{take-shift, drop-shift, map-shift}
@@ -25,15 +26,29 @@ action-there (a ∷ l) zero = refl
 action-there (a ∷ l) (suc p) = action-there l p
 
 -- ── One list ──
+head-some : (a : Action) (rs : List Action) → Some a ≡ head_of rs → rs ≡ a ∷ drop 1 rs
+head-some a [] e = absurd (false≢true (ap is_some (sym e)))
+head-some a (b ∷ rs) e = let q : b ≡ a = cc in ap (λ x. x ∷ rs) q
+
+pub head-none : (rs : List Action) → None ≡ head_of rs → rs ≡ []
+head-none [] e = refl
+head-none (b ∷ rs) e = absurd (false≢true (ap is_some e))
+
 module _ (l : List Action) (n : ℕ) (places : List ℕ) where
   length_most : length (left_of l n places) ≤ length l - n
   length_most = simp (length-drop, length-map, length-take) (omega arith)
 
-  left-none : length l ≤ n → left_of l n places ≡ []
+  pub left-none : length l ≤ n → left_of l n places ≡ []
   left-none h = nil_from_length _ (omega (arith, length_most))
 
   left-past : (p c : ℕ) → length l ≤ n + p + c + 1 → move_in p c (left_of l n places) ≡ Err 32
   left-past p c h = need_fails _ 32 _ (le-ltb (p + c + 1) (length (left_of l n places)) (omega (arith, length_most)))
+
+  -- a comes next
+  pub left-next : (a : Action) → Some a ≡ head_of (left_of l n places) → left_of l n places ≡ a ∷ left_of l (n + 1) places
+  left-next a e =
+      let all = map (action_at l) (take (length l) places) in
+      head-some a (drop n all) e ∙ ap (λ rs. a ∷ rs) (drop-drop 1 n all)
 
   module _ (fits : length l ≤ length places) where
     length-all : length (map (action_at l) (take (length l) places)) ≡ length l
@@ -42,7 +57,7 @@ module _ (l : List Action) (n : ℕ) (places : List ℕ) where
     at_place : (k : ℕ) → k < length l → get_or (map (action_at l) (take (length l) places)) k (Sync 0 0 End) ≡ action_at l (get_or places k 0)
     at_place k h = get_or-map (action_at l) (take (length l) places) k 0 (Sync 0 0 End) (simp length-take (omega arith)) ∙ ap (action_at l) (get_or-take (length l) places k 0 h)
 
-    left-more : n < length l → left_of l n places ≡ action_at l (get_or places n 0) ∷ left_of l (n + 1) places
+    pub left-more : n < length l → left_of l n places ≡ action_at l (get_or places n 0) ∷ left_of l (n + 1) places
     left-more h = drop_more _ n (Sync 0 0 End) (omega (arith, length-all)) ∙ ap (λ a. a ∷ left_of l (n + 1) places) (at_place n h)
 
     -- in program order
@@ -113,7 +128,7 @@ module _ (c : Case) (lists : List MovedList) (t : ℕ) where
 
 -- by the entry of one thread, read at a default d of the caller's own
 module _ (c : Case) (lists : List MovedList) (t : ℕ) (d : MovedList) (in' : t < length lists) where
-  lefts_at : lefts c lists t ≡ left_of (thread c t) (get_or lists t d).next (get_or lists t d).places
+  pub lefts_at : lefts c lists t ≡ left_of (thread c t) (get_or lists t d).next (get_or lists t d).places
   lefts_at i = left_of (thread c t) (get_or-map (λ l. l.next) lists t d 0 in' i) (get_or-map (λ l. l.places) lists t d [] in' i)
 
   -- all have come
@@ -143,6 +158,15 @@ module _ (c : Case) (lists : List MovedList) (t : ℕ) (d : MovedList) (in' : t 
           → move_in p k (lefts c lists t) ≡ Ok (left_of (thread c t) (get_or lists t d).next (shift ((get_or lists t d).next + p) k (get_or lists t d).places))
       move_taken e =
           ap (move_in p k) lefts_at ∙ left-taken (thread c t) (get_or lists t d).next (get_or lists t d).places fits p k h (e ∙ ap (λ K. answer (move_in p k K)) lefts_at)
+
+-- the state after a change of thread t's list
+module _ (c : Case) (lists : List MovedList) (t : ℕ) (h : t < length lists) where
+  pub relisted : (list : MovedList) (n : ℕ) (places : List ℕ) → list.next ≡ n → list.places ≡ places → (by : Memory) (memory : ℕ → ℕ) (k : ℕ) → held by.writes ≡ memory → by.turns ≡ k
+      → (begun b : Bool) → begun ≡ b → order_state c (record { lists = set lists t list; memory = by; begun = begun })
+      ≡ record { begun = b; left = upd (lefts c lists) t (left_of (thread c t) n places); memory = memory; turns = k }
+  relisted list n places e f by memory k g q begun b r =
+      let left = lefts-set c lists t list h ∙ (λ i. upd (lefts c lists) t (left_of (thread c t) (e i) (f i))) in
+      (λ i. record { begun = r i; left = left i; memory = g i; turns = q i })
 
 -- one list for all threads, in program order
 pub lefts-fresh : (c : Case) (m : MovedList) → m.next ≡ 0 → ((k : ℕ) → k < 64 → get_or m.places k 0 ≡ k) → ((t : ℕ) → length (thread c t) ≤ 64) → ((t : ℕ) → 8 ≤ t → thread c t ≡ [])

@@ -3,8 +3,8 @@ pub mod Feeds
 pub mod Spent
 pub mod Threads
 pub mod Windows
-pub mod RunStates
 pub mod Steps
+pub mod RunStates
 pub mod Examining
 pub mod Shifts
 pub mod Moves

@@ -1,23 +1,25 @@
 -- What a change of one row, of memory or of the turns makes of the state that the run checker's table stands for.
-use Rattle.std.proofs.Common.{◌≡◌, ℕ, suc, ◌+◌, ◌<◌, ◌≤◌, Bool, true, false, eqb, List, [], ◌∷◌, ◌++◌, map, length, get_or, drop, set, is_some, Some, None, Ok, Err, Option, Result, unwrap_or, sym, refl, ap, ◌∙◌, arith}
+use Rattle.std.proofs.Common.{◌≡◌, ℕ, suc, ◌+◌, ◌<◌, ◌≤◌, Bool, true, false, eqb, List, [], ◌∷◌, ◌++◌, map, length, get_or, drop, set, is_some, Some, None, Ok, Err, Result, sym, refl, ap, ◌∙◌, arith}
 use Rattle.std.specs.List.{slice_get}
-use Rattle.std.specs.Option.{option_map}
 use Rattle.std.proofs.lemmas.List.{map-set, length-map, get_or-map, get_or_past, map_push, drop-drop, drop_all, set-get_or}
 use Rattle.std.proofs.lemmas.Bool.{eq-eqb, ne_eqb, false≢true}
 use Rattle.records.specs.declared.action.Action.{Action}
 use Rattle.records.specs.declared.action.Action.TheVariants.{Read, Sync}
 use Rattle.records.specs.declared.action.SyncOp.{SyncOp}
-use Rattle.records.specs.Names.{Case, thread, named, default}
+use Rattle.records.specs.Names.{Case, thread, named}
+use Rattle.machines.specs.declared.faults.Mismatch.{Mismatch}
+use Rattle.machines.specs.declared.memory.Memory.{Memory}
 use Rattle.machines.specs.declared.rows.PendingWrite.{PendingWrite}
 use Rattle.machines.specs.declared.rows.Row.{Row}
 use Rattle.machines.specs.declared.rows.Run.{Run}
-use Rattle.machines.specs.Machine.{need}
-use Rattle.machines.specs.Memory.{upd, held, agrees, stored}
-use Rattle.machines.specs.Rows.{window, waits_of, next_of, window_of, run_state, newest_of, oldest, younger}
+use Rattle.machines.specs.Faults.{run_number, run_fault}
+use Rattle.machines.specs.Machine.{moved}
+use Rattle.machines.specs.Memory.{upd, held, stored, in_step}
+use Rattle.machines.specs.Rows.{window, waits_of, next_of, window_of, run_state, oldest, younger}
 use Rattle.machines.specs.Run.{RunState, waits, isNil, sees, perform}
+use Rattle.machines.proofs.Steps.{need_fails, need-holds, comes_in_step, out_of_step}
 use Rattle.machines.proofs.Tables.{table-set, upd_still}
 use Rattle.machines.proofs.Threads.{drop-some, drop-none}
-use Rattle.machines.proofs.Windows.{sees_newest}
 
 -- ── The oldest waiting write ──
 pub oldest-some : (ws : List PendingWrite) (w : PendingWrite) → Some w ≡ oldest ws → ws ≡ w ∷ younger ws
@@ -37,32 +39,22 @@ is_nil-map f (x ∷ l) = sym (ne_eqb (suc (length l)) 0 (λ e. omega arith))
 abbrev goes : ℕ → RunState → List Action → (ℕ → ℕ) → ℕ → RunState
 goes t s rs memory k = record { rest = upd s.rest t rs; buffer = s.buffer; memory = memory; turns = k }
 
-need_yes : {S : Type 0} (b : Bool) (n : ℕ) (o : Result S ℕ) → b ≡ true → need b n o ≡ o
-need_yes b n o e = ap (λ v. need v n o) e
-
-need_no : {S : Type 0} (b : Bool) (n : ℕ) (o : Result S ℕ) → b ≡ false → need b n o ≡ Err n
-need_no b n o e = ap (λ v. need v n o) e
-
 module _ (t : ℕ) (s : RunState) (rs : List Action) where
   pub read-other : (n x w : ℕ) → (sees x (s.buffer t) (s.memory x) ≡ w → ⊥) → perform t s (Read n x w ∷ rs) ≡ Err 25
-  read-other n x w ne = need_no _ 25 _ (ne_eqb _ _ ne)
+  read-other n x w ne = need_fails _ 25 _ (ne_eqb _ _ ne)
 
   pub read-seen : (n x w : ℕ) → sees x (s.buffer t) (s.memory x) ≡ w → perform t s (Read n x w ∷ rs) ≡ Ok (goes t s rs s.memory s.turns)
-  read-seen n x w e = need_yes _ 25 _ (eq-eqb _ _ e)
+  read-seen n x w e = need-holds _ 25 _ (eq-eqb _ _ e)
 
   module _ (n k : ℕ) (o : SyncOp) where
     pub sync_waits : isNil (s.buffer t) ≡ false → perform t s (Sync n k o ∷ rs) ≡ Err 23
-    sync_waits e = need_no _ 23 _ e
+    sync_waits e = need_fails _ 23 _ e
 
-    module _ (empty : isNil (s.buffer t) ≡ true) where
-      pub sync_turn : (k ≡ suc s.turns → ⊥) → perform t s (Sync n k o ∷ rs) ≡ Err 24
-      sync_turn ne = need_yes _ 23 _ empty ∙ need_no _ 24 _ (ne_eqb _ _ ne)
+    pub sync-out : isNil (s.buffer t) ≡ true → (f : Mismatch) → Err f ≡ in_step k o s.memory s.turns → perform t s (Sync n k o ∷ rs) ≡ Err (run_number (run_fault f))
+    sync-out empty f e = need-holds _ 23 _ empty ∙ out_of_step (λ f. run_number (run_fault f)) k o s.memory s.turns _ f e
 
-      pub sync_other : k ≡ suc s.turns → agrees o s.memory ≡ false → perform t s (Sync n k o ∷ rs) ≡ Err 25
-      sync_other e a = need_yes _ 23 _ empty ∙ need_yes _ 24 _ (eq-eqb _ _ e) ∙ need_no _ 25 _ a
-
-      pub sync_taken : k ≡ suc s.turns → agrees o s.memory ≡ true → perform t s (Sync n k o ∷ rs) ≡ Ok (goes t s rs (stored n o s.memory) (suc s.turns))
-      sync_taken e a = need_yes _ 23 _ empty ∙ need_yes _ 24 _ (eq-eqb _ _ e) ∙ need_yes _ 25 _ a
+    pub sync-in : isNil (s.buffer t) ≡ true → Ok tt ≡ in_step k o s.memory s.turns → perform t s (Sync n k o ∷ rs) ≡ Ok (goes t s rs (stored n o s.memory) (suc s.turns))
+    sync-in empty e = need-holds _ 23 _ empty ∙ comes_in_step (λ f. run_number (run_fault f)) k o s.memory s.turns _ e
 
 -- ── One row of the table ──
 pub rest_over : (c : Case) (m : Run) (t : ℕ) → thread c t ≡ [] → (run_state c m).rest t ≡ []
@@ -97,10 +89,6 @@ module _ (c : Case) (m : Run) (t : ℕ) (h : t < length m.rows) (d : Row) where
   pub nil_is : (ws : List PendingWrite) → ws ≡ window row → (b : Bool) → b ≡ eqb (length ws) 0 → isNil (s.buffer t) ≡ b
   nil_is ws e b q = ap isNil buffer_is ∙ is_nil-map (waits_of t) (window row) ∙ ap (λ l. eqb (length l) 0) (sym e) ∙ sym q
 
-  -- what a read of x sees, where o is the newest of the waiting writes to x
-  pub sees_in : (x : ℕ) (o : Option ℕ) → o ≡ newest_of x (window row) → unwrap_or (option_map (named t) o) (s.memory x) ≡ sees x (s.buffer t) (s.memory x)
-  sees_in x o e = ap (λ p. unwrap_or (option_map (named t) p) (s.memory x)) e ∙ sym (ap (λ b. sees x b (s.memory x)) buffer_is ∙ sees_newest t x (window row) (s.memory x))
-
   rest-set : (r : Row) → (λ u. drop (next_of (set m.rows t r) u) (thread c u)) ≡ upd s.rest t (drop r.next (thread c t))
   rest-set r =
       (λ i u. drop (get_or (map-set (λ (x : Row). x.next) m.rows t r i) u 0) (thread c u))
@@ -111,9 +99,12 @@ module _ (c : Case) (m : Run) (t : ℕ) (h : t < length m.rows) (d : Row) where
       (λ i u. map (waits_of u) (get_or (map-set window m.rows t r i) u []))
       ∙ table-set (λ u ws. map (waits_of u) ws) (λ _. []) (map window m.rows) t (window r) (omega (arith, length-map m.rows window))
 
-  -- the row as it was, given back
-  pub unchanged : (r : Row) → r ≡ row → ◌≡◌ {A = Run} (record { rows = set m.rows t r; memory = m.memory; turns = m.turns }) m
-  unchanged r e = let q = ap (set m.rows t) e ∙ set-get_or m.rows t d in (λ i. record { rows = q i; memory = m.memory; turns = m.turns })
+  -- the row and memory as they were, given back
+  pub unchanged : (r : Row) → r ≡ row → (by : Memory) → by ≡ m.memory → ◌≡◌ {A = Run} (record { rows = set m.rows t r; memory = by }) m
+  unchanged r e by k = let q = ap (set m.rows t) e ∙ set-get_or m.rows t d in (λ i. record { rows = q i; memory = k i })
+
+  pub stays : (r : Row) → r ≡ row → (by : Memory) → by ≡ m.memory → (o : Result RunState ℕ) (n : ℕ) → o ≡ Err n → run_state c (record { rows = set m.rows t r; memory = by }) ≡ moved s o
+  stays r e by k o n q = ap (run_state c) (unchanged r e by k) ∙ sym (ap (moved s) q)
 
   -- the next action a is performed: the row is r now, and rs is left
   module _ (r : Row) (next : r.next ≡ row.next + 1) (a : Action) (rs : List Action) (left : s.rest t ≡ a ∷ rs) where
@@ -122,14 +113,14 @@ module _ (c : Case) (m : Run) (t : ℕ) (h : t < length m.rows) (d : Row) where
         let n : r.next ≡ next_of m.rows t + 1 = next ∙ ap (λ k. k + 1) (sym next_is) in
         rest-set r ∙ ap (upd s.rest t) (ap (λ k. drop k (thread c t)) n ∙ sym (drop-drop 1 (next_of m.rows t) (thread c t)) ∙ ap (drop 1) left)
 
-    pub passed : window r ≡ window row → (table : List ℕ) (memory : ℕ → ℕ) → held table ≡ memory → (j k : ℕ) → j ≡ k
-        → run_state c (record { rows = set m.rows t r; memory = table; turns = j }) ≡ goes t s rs memory k
-    passed e table memory h j k q =
+    pub passed : window r ≡ window row → (by : Memory) (memory : ℕ → ℕ) (k : ℕ) → held by.writes ≡ memory → by.turns ≡ k
+        → run_state c (record { rows = set m.rows t r; memory = by }) ≡ goes t s rs memory k
+    passed e by memory k h q =
         let b = buffer-set r ∙ upd_still s.buffer t (map (waits_of t) (window r)) (ap (map (waits_of t)) e ∙ sym buffer_is) in
         (λ i. record { rest = rest-less i; buffer = b i; memory = h i; turns = q i })
 
     pub joined : (w : PendingWrite) (n : ℕ) → n ≡ named t w.place → window r ≡ window row ++ (w ∷ [])
-        → run_state c (record { rows = set m.rows t r; memory = m.memory; turns = m.turns })
+        → run_state c (record { rows = set m.rows t r; memory = m.memory })
         ≡ record { rest = upd s.rest t rs; buffer = upd s.buffer t (s.buffer t ++ (waits n w.location ∷ [])); memory = s.memory; turns = s.turns }
     joined w n q e =
         let f : map (waits_of t) (window r) ≡ s.buffer t ++ (waits n w.location ∷ []) =
@@ -142,11 +133,10 @@ module _ (c : Case) (m : Run) (t : ℕ) (h : t < length m.rows) (d : Row) where
     pub front : s.buffer t ≡ waits n w.location ∷ map (waits_of t) (younger (window row))
     front = buffer_is ∙ ap (map (waits_of t)) (oldest-some (window row) w old) ∙ ap (λ k. waits k w.location ∷ map (waits_of t) (younger (window row))) (sym is)
 
-    pub left : (r : Row) → r.next ≡ row.next → window r ≡ younger (window row) → w.location < length m.memory
-        → run_state c (record { rows = set m.rows t r; memory = set m.memory w.location n; turns = m.turns })
+    pub left : (r : Row) → r.next ≡ row.next → window r ≡ younger (window row) → (by : Memory) → held by.writes ≡ upd s.memory w.location n → by.turns ≡ s.turns
+        → run_state c (record { rows = set m.rows t r; memory = by })
         ≡ record { rest = s.rest; buffer = upd s.buffer t (map (waits_of t) (younger (window row))); memory = upd s.memory w.location n; turns = s.turns }
-    left r next e l =
+    left r next e by u k =
         let q = rest-set r ∙ upd_still s.rest t (drop r.next (thread c t)) (ap (λ k. drop k (thread c t)) (next ∙ sym next_is)) in
         let b = buffer-set r ∙ ap (λ ws. upd s.buffer t (map (waits_of t) ws)) e in
-        let u = table-set (λ _ v. v) default m.memory w.location n l in
-        (λ i. record { rest = q i; buffer = b i; memory = u i; turns = s.turns })
+        (λ i. record { rest = q i; buffer = b i; memory = u i; turns = k i })

@@ -69,8 +69,8 @@ name_at_lem xs t p a h e =
     name-from (named t 0) p (of_thread t xs) a (ap (λ l. slice_get l p) (sym (thread_is xs t h)) ∙ sym e) ∙ z
 
 -- ── The eight threads of a case ──
+pub thread_few : (c : CheckedCase) (t : ℕ) → length (thread (threads c) t) ≤ 64
+thread_few c t = let xs = records_of c in let few = (lawful xs c.formed).thread_few t in omega (arith, thread-long xs c.formed t)
+
 pub place-small : (c : CheckedCase) (t p : ℕ) (a : Action) → Some a ≡ slice_get (thread (threads c) t) p → p < 64
-place-small c t p a e =
-    let xs = records_of c in
-    let few = (lawful xs c.formed).thread_few t in
-    omega (arith, nth_within (thread (threads c) t) p a (sym e), thread-long xs c.formed t)
+place-small c t p a e = omega (arith, nth_within (thread (threads c) t) p a (sym e), thread_few c t)

@@ -1,11 +1,12 @@
 -- A window of a table moved at either end, and the newest of the waiting writes in it.
-use Rattle.std.proofs.Common.{◌≡◌, ℕ, suc, ◌+◌, ◌-◌, ◌<◌, ◌≤◌, Bool, true, false, cond, eqb, List, [], ◌∷◌, ◌++◌, map, length, get_or, take, drop, set, Some, None, Option, unwrap_or, sym, refl, ap, ◌∙◌, arith}
-use Rattle.std.specs.List.{between}
+use Rattle.std.proofs.Common.{◌≡◌, ℕ, suc, ◌+◌, ◌-◌, ◌<◌, ◌≤◌, Bool, true, false, cond, eqb, List, [], ◌∷◌, ◌++◌, map, length, reverse, get_or, take, drop, set, Some, None, Option, unwrap_or, sym, refl, ap, ◌∙◌, arith}
+use Rattle.std.specs.List.{between, find}
 use Rattle.std.specs.Option.{option_or, option_map}
-use Rattle.std.proofs.lemmas.List.{get_or-set_same, take-set, length-set, drop_more, take_all, take_more}
+use Rattle.std.proofs.lemmas.List.Folds.{find-append}
+use Rattle.std.proofs.lemmas.Bool.Decides.{nat_tests}
+use Rattle.std.proofs.lemmas.List.{reverse-append, get_or-set_same, take-set, length-set, drop_more}
 use Rattle.std.proofs.lemmas.Slice.{between_is}
 use Rattle.std.proofs.lemmas.List.Edits.{between_more}
-use Rattle.std.proofs.lemmas.Bool.{cond-true, cond-false, eq-eqb, ne_eqb}
 use Rattle.records.specs.Names.{named}
 use Rattle.machines.specs.declared.rows.PendingWrite.{PendingWrite}
 use Rattle.machines.specs.Rows.{waits_of, fits, newest_of}
@@ -33,28 +34,20 @@ or_none : (a : Option ℕ) → a ≡ option_or a None
 or_none None = refl
 or_none (Some x) = refl
 
-newest_push : (x : ℕ) (ws : List PendingWrite) (w : PendingWrite) → newest_of x (ws ++ w ∷ []) ≡ option_or (fits x w) (newest_of x ws)
-newest_push x [] w = or_none (fits x w)
-newest_push x (v ∷ ws) w = ap (λ o. option_or o (fits x v)) (newest_push x ws w) ∙ or_assoc (fits x w) (newest_of x ws) (fits x v)
+map_or : (a b : Option PendingWrite) → option_map (λ w. w.place) (option_or a b) ≡ option_or (option_map (λ w. w.place) a) (option_map (λ w. w.place) b)
+map_or None b = refl
+map_or (Some w) b = refl
 
--- a list that is not empty is its front and its last
-front-last : {X : Type 0} (xs : List X) (d : X) → 0 < length xs → xs ≡ take (length xs - 1) xs ++ get_or xs (length xs - 1) d ∷ []
-front-last xs d h =
-    let n : length xs - 1 + 1 ≡ length xs = omega arith in
-    sym (take_all (length xs) xs (omega arith)) ∙ ap (λ k. take k xs) (sym n) ∙ take_more xs (length xs - 1) d (omega arith)
+fits-find : (x : ℕ) (w : PendingWrite) → option_map (λ v. v.place) (find (λ v. eqb v.location x) (w ∷ [])) ≡ fits x w
+fits-find x w = grind (arith, nat_tests)
 
--- w is the last of the writes
-module _ (x : ℕ) (ws : List PendingWrite) (h : 0 < length ws) (w : PendingWrite) (is : w ≡ get_or ws (length ws - 1) w) where
-  by_last : newest_of x ws ≡ option_or (fits x w) (newest_of x (take (length ws - 1) ws))
-  by_last =
-      ap (newest_of x) (front-last ws w h) ∙ newest_push x (take (length ws - 1) ws) (get_or ws (length ws - 1) w)
-      ∙ ap (λ v. option_or (fits x v) (newest_of x (take (length ws - 1) ws))) (sym is)
-
-  pub newest_fits : w.location ≡ x → Some w.place ≡ newest_of x ws
-  newest_fits e = sym (by_last ∙ ap (λ o. option_or o (newest_of x (take (length ws - 1) ws))) (cond-true _ _ _ (eq-eqb _ _ (sym e))))
-
-  pub newest_older : (w.location ≡ x → ⊥) → newest_of x (take (length ws - 1) ws) ≡ newest_of x ws
-  newest_older ne = sym (by_last ∙ ap (λ o. option_or o (newest_of x (take (length ws - 1) ws))) (cond-false _ _ _ (ne_eqb _ _ (λ e. ne (sym e)))))
+-- the first that fits of the writes in reverse
+pub newest_found : (x : ℕ) (ws : List PendingWrite) → option_map (λ w. w.place) (find (λ w. eqb w.location x) (reverse ws)) ≡ newest_of x ws
+newest_found x [] = refl
+newest_found x (w ∷ ws) =
+    ap (λ vs. option_map (λ v. v.place) (find (λ v. eqb v.location x) vs)) (reverse-append (w ∷ []) ws) ∙ ap (option_map (λ v. v.place)) (find-append (λ v. eqb v.location x) (reverse ws) (w ∷ []))
+    ∙ map_or (find (λ v. eqb v.location x) (reverse ws)) (find (λ v. eqb v.location x) (w ∷ []))
+    ∙ (λ i. option_or (newest_found x ws i) (fits-find x w i))
 
 -- what a read sees is the newest of the waiting writes, by its name, or else what memory holds
 named-cond : (t p m : ℕ) (b : Bool) → cond b (named t p) m ≡ unwrap_or (option_map (named t) (cond b (Some p) None)) m

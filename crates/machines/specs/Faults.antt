@@ -1,5 +1,7 @@
 -- The number of each fault, by case, and the answer that a result with a fault gives.
 use Rattle.std.specs.Prelude.{ℕ, Ok, Err, Result}
+use Rattle.machines.specs.declared.faults.Mismatch.{Mismatch}
+use Rattle.machines.specs.declared.faults.Mismatch.TheVariants as mismatch
 use Rattle.machines.specs.declared.faults.RunFault.{RunFault}
 use Rattle.machines.specs.declared.faults.RunFault.TheVariants as run
 use Rattle.machines.specs.declared.faults.CertificateFault.{CertificateFault}
@@ -23,6 +25,15 @@ certificate_number certificate.CannotPass = 35
 certificate_number certificate.NoneLeft = 36
 certificate_number certificate.NotItsTurn = 37
 certificate_number certificate.SawAnother = 38
+
+-- by which fault each machine refuses an action that is out of step with memory
+abbrev pub run_fault : Mismatch → RunFault
+run_fault mismatch.NotItsTurn = run.NotItsTurn
+run_fault mismatch.SawAnother = run.SawAnother
+
+abbrev pub certificate_fault : Mismatch → CertificateFault
+certificate_fault mismatch.NotItsTurn = certificate.NotItsTurn
+certificate_fault mismatch.SawAnother = certificate.SawAnother
 
 -- an answer with its fault told by number
 abbrev pub told : {F : Type 0} → (F → ℕ) → Result (Unit {0}) F → Result (Unit {0}) ℕ

@@ -29,8 +29,8 @@ order_state c m =
     record {
       begun = m.begun;
       left = λ t. left_of (thread c t) (come_of m.lists t) (places_of m.lists t);
-      memory = held m.memory;
-      turns = m.turns;
+      memory = held m.memory.writes;
+      turns = m.memory.turns;
     }
 
 -- the first of a list

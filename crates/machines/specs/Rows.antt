@@ -28,8 +28,8 @@ run_state c m =
     record {
       rest = λ t. drop (next_of m.rows t) (thread c t);
       buffer = λ t. map (waits_of t) (window_of m.rows t);
-      memory = held m.memory;
-      turns = m.turns;
+      memory = held m.memory.writes;
+      turns = m.memory.turns;
     }
 
 -- the place of a write if it is to location x

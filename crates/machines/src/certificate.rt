@@ -1,5 +1,7 @@
 // The certificate checker: moves in the threads' lists, and then one order of all actions, one item at a time.
-ghost use Rattle.std.specs.Prelude.{◌≡◌, ◌-◌, ◌<◌, ◌≤◌, map, length, OnErr};
+//
+// Lists are indexed behind a test of the thread: once a borrow by `get_mut` is over, a proof knows nothing of the lists.
+ghost use Rattle.std.specs.Prelude.{◌≡◌, ◌-◌, ◌<◌, ◌≤◌, map, length, IfSome, OnErr};
 ghost use Rattle.records.specs.Actions.{Located};
 ghost use Rattle.records.specs.Names.{thread as thread_of};
 ghost use Rattle.case.specs.Cases.{threads};
@@ -7,14 +9,14 @@ ghost use Rattle.case.specs.declared.checked.CheckedCase.{CheckedCase};
 ghost use Rattle.machines.specs.declared.items.CertificateItem.TheVariants.{Move, Come};
 ghost use Rattle.machines.specs.Certificate.{move_at, certifies, fresh_order, certificate_step, certificate_machine};
 ghost use Rattle.machines.specs.Faults.{told, certificate_number};
-ghost use Rattle.machines.specs.Lists.{action_at, head_of, order_state};
+ghost use Rattle.machines.specs.Lists.{action_at, left_of, head_of, order_state};
 ghost use Rattle.machines.specs.Machine.{answer, moved};
 ghost use Rattle.machines.specs.Moves.{saw, reads_other, shift};
 
 use crate::faults::CertificateFault;
 use crate::items::CertificateItem;
 use crate::lists::{Certificate, MovedList};
-use crate::memory;
+use crate::memory::Memory;
 use case::checked::CheckedCase;
 use records::Item;
 use records::action::{Action, SyncOp};
@@ -25,38 +27,25 @@ fn action_at(case: &CheckedCase, thread: u8, place: u8) -> Action
     ensures value { result ≡ action_at (thread_of (threads case.now) thread) place }
     ensures located { Located result }
 {
-    match case.action(thread, place) {
-        Some(action) => action,
-        None => Action::Sync {
-            name: 0,
-            turn: 0,
-            op: SyncOp::End,
-        },
-    }
+    case.action(thread, place).unwrap_or(Action::Sync {
+        name: 0,
+        turn: 0,
+        op: SyncOp::End,
+    })
 }
 
 // Whether an action is a read of the location that saw the write of this name.
 fn carried(action: Action, name: u16, location: u8) -> bool
     ensures { result ≡ saw name location action }
 {
-    match action {
-        Action::Read {
-            location: x,
-            seen,
-            ..
-        } => seen == name && x == location,
-        _ => false,
-    }
+    matches!(action, Action::Read { location: x, seen, .. } if seen == name && x == location)
 }
 
 // Whether an action is a read of another location.
 fn other_read(action: Action, location: u8) -> bool
     ensures { result ≡ reads_other location action }
 {
-    match action {
-        Action::Read { location: x, .. } => x != location,
-        _ => false,
-    }
+    matches!(action, Action::Read { location: x, .. } if x != location)
 }
 
 // Refuses unless the action at the last of these places of a thread may come before the first: a read that passes a
@@ -80,14 +69,27 @@ fn passes(case: &CheckedCase, thread: u8, places: &[u8]) -> Result<(), Certifica
     Ok(())
 }
 
-// The place at `last` comes before those from `at` on.
-fn advance(list: &mut MovedList, at: usize, last: usize)
-    requires ordered { at < last }
-    requires within { last < 64 }
-    ensures next { list.new.next ≡ list.old.next }
-    ensures places { list.new.places ≡ shift at (last - at - 1) list.old.places }
-{
-    list.places[at..last + 1].rotate_right(1);
+impl MovedList {
+    // The action of this thread that comes next, if one is left.
+    fn upcoming(&self, case: &CheckedCase, thread: u8) -> Option<Action>
+        ensures value { result ≡ head_of (left_of (thread_of (threads case.now) thread) self.now.next self.now.places) }
+        ensures located { IfSome result Located }
+    {
+        if self.next as usize >= case.thread(thread).len() {
+            return None;
+        }
+        Some(action_at(case, thread, self.places[self.next as usize]))
+    }
+
+    // The place at `last` comes before those from `at` on.
+    fn advance(&mut self, at: usize, last: usize)
+        requires ordered { at < last }
+        requires within { last < 64 }
+        ensures next { self.new.next ≡ self.old.next }
+        ensures places { self.new.places ≡ shift at (last - at - 1) self.old.places }
+    {
+        self.places[at..last + 1].rotate_right(1);
+    }
 }
 
 impl Certificate {
@@ -96,13 +98,12 @@ impl Certificate {
         ensures { (k : CheckedCase) → order_state (threads k) result ≡ fresh_order (threads k) }
     {
         let mut places = [0u8; 64];
-        for p in 0..64u8 {
-            places[p as usize] = p;
+        for (at, place) in places.iter_mut().enumerate() {
+            *place = at as u8;
         }
         Certificate {
             lists: [MovedList { next: 0, places }; 8],
-            memory: memory::fresh(),
-            turns: 0,
+            memory: Memory::fresh(),
             begun: false,
         }
     }
@@ -129,17 +130,17 @@ impl Certificate {
         if self.begun {
             return Err(CertificateFault::MoveInOrder);
         }
-        if thread > 7 {
+        if thread as usize >= self.lists.len() {
             return Err(CertificateFault::PastTheEnd);
         }
-        let list = &self.lists[thread as usize];
+        let list = &mut self.lists[thread as usize];
         let at = list.next as usize + place as usize;
         let last = at + count as usize + 1;
         if last >= case.thread(thread).len() {
             return Err(CertificateFault::PastTheEnd);
         }
         passes(case, thread, &list.places[at..last + 1])?;
-        advance(&mut self.lists[thread as usize], at, last);
+        list.advance(at, last);
         Ok(())
     }
 
@@ -149,32 +150,15 @@ impl Certificate {
         ensures after { order_state (threads case.now) self.new ≡ moved (order_state (threads case.now) self.old) (certifies (order_state (threads case.now) self.old) (Come thread)) }
         ensures kept { OnErr result (self.new ≡ self.old) }
     {
-        if thread > 7 {
+        if thread as usize >= self.lists.len() {
             return Err(CertificateFault::NoneLeft);
         }
-        let list = &self.lists[thread as usize];
-        if list.next as usize >= case.thread(thread).len() {
-            return Err(CertificateFault::NoneLeft);
-        }
-        match action_at(case, thread, list.places[list.next as usize]) {
-            Action::Read { location, seen, .. } => {
-                if self.memory[location as usize] != seen {
-                    return Err(CertificateFault::SawAnother);
-                }
-            }
-            Action::Write { name, location } => self.memory[location as usize] = name,
-            Action::Sync { name, turn, op } => {
-                if u32::from(turn) != u32::from(self.turns) + 1 {
-                    return Err(CertificateFault::NotItsTurn);
-                }
-                if !memory::agreed(&self.memory, op) {
-                    return Err(CertificateFault::SawAnother);
-                }
-                memory::store(&mut self.memory, name, op);
-                self.turns = turn;
-            }
-        }
-        self.lists[thread as usize].next += 1;
+        let list = &mut self.lists[thread as usize];
+        let action = list
+            .upcoming(case, thread)
+            .ok_or(CertificateFault::NoneLeft)?;
+        self.memory.come(action)?;
+        list.next += 1;
         self.begun = true;
         Ok(())
     }
@@ -199,25 +183,14 @@ impl Certificate {
     pub fn upcoming(&self, case: &CheckedCase, thread: u8) -> Option<Action>
         ensures next { result ≡ head_of ((order_state (threads case.now) self.now).left thread) }
     {
-        if thread > 7 {
-            return None;
-        }
-        let list = &self.lists[thread as usize];
-        if list.next as usize >= case.thread(thread).len() {
-            return None;
-        }
-        Some(action_at(case, thread, list.places[list.next as usize]))
+        self.lists.get(thread as usize)?.upcoming(case, thread)
     }
 
     // Whether every action has come.
     pub fn finished(&self, case: &CheckedCase) -> bool
         ensures { result ≡ (certificate_machine (threads case.now)).complete (order_state (threads case.now) self.now) }
     {
-        for thread in 0..8u8 {
-            if (self.lists[thread as usize].next as usize) < case.thread(thread).len() {
-                return false;
-            }
-        }
-        true
+        let mut lists = self.lists.iter().zip(0..8u8);
+        lists.all(|(list, thread)| list.next as usize >= case.thread(thread).len())
     }
 }

@@ -10,6 +10,6 @@ pub mod certificate;
 pub mod faults;
 pub mod items;
 pub mod lists;
-mod memory;
+pub mod memory;
 pub mod rows;
 pub mod run;

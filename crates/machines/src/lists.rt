@@ -1,6 +1,8 @@
 // The certificate checker's table: each thread's moved list, as places in program order, and how many of it have come.
 ghost use Rattle.std.specs.Prelude.{◌≡◌, ◌≤◌, length};
 
+use crate::memory::Memory;
+
 #[derive(Clone, Copy)]
 pub struct MovedList {
     pub(crate) next: u8,
@@ -9,11 +11,11 @@ pub struct MovedList {
     ghost full: { length places ≡ 64 },
 }
 
-// Moves and then one order of all actions: the moved lists, the last write to each location so far, the turns passed.
+// Moves and then one order of all actions: the moved lists, memory as the actions that came leave it, and whether the
+// order has begun.
 #[derive(Clone, Copy)]
 pub struct Certificate {
     pub(crate) lists: [MovedList; 8],
-    pub(crate) memory: [u16; 64],
-    pub(crate) turns: u16,
+    pub(crate) memory: Memory,
     pub(crate) begun: bool,
 }

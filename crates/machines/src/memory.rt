@@ -1,39 +1,89 @@
-// Memory, which every machine has: for each location the name of one write.
-ghost use Rattle.std.specs.Prelude.{◌≡◌};
-ghost use Rattle.records.specs.Actions.{LocatedOp};
+// Memory, which both machines have: for each location the name of the write that it holds, and how many turns have passed.
+ghost use Rattle.std.specs.Prelude.{◌≡◌, suc, ◌<◌, OnOk, OnErr};
+ghost use Rattle.records.specs.Actions.{Located, LocatedOp};
 ghost use Rattle.records.specs.Names.{default};
-ghost use Rattle.machines.specs.Memory.{agrees, stored, held};
+ghost use Rattle.machines.specs.Memory.{upd, held, stored, written, turned, in_step, in_order};
 
-use records::action::SyncOp;
+use crate::faults::Mismatch;
+use records::action::{Action, SyncOp};
+use records::names::default_write;
 
-// Every location at its default write.
-pub(crate) fn fresh() -> [u16; 64]
-    ensures { held result ≡ default }
-{
-    let mut memory = [0u16; 64];
-    for x in 0..64u16 {
-        memory[x as usize] = 512 + x;
-    }
-    memory
+#[derive(Clone, Copy)]
+pub struct Memory {
+    pub(crate) writes: [u16; 64],
+    pub(crate) turns: u16,
 }
 
-// Whether a volatile read saw what memory holds. Nothing else looks.
-pub(crate) fn agreed(memory: &[u16; 64], op: SyncOp) -> bool
-    requires { LocatedOp op }
-    ensures { result ≡ agrees op (held memory.now) }
-{
-    match op {
-        SyncOp::VolatileRead { location, seen } => memory[location as usize] == seen,
-        _ => true,
+impl Memory {
+    // Every location at its default write, and no turn passed.
+    pub(crate) fn fresh() -> Memory
+        ensures writes { held result.writes ≡ default }
+        ensures turns { result.turns ≡ 0 }
+    {
+        let mut writes = [0u16; 64];
+        for (location, write) in writes.iter_mut().enumerate() {
+            *write = default_write(location as u8);
+        }
+        Memory { writes, turns: 0 }
     }
-}
 
-// A volatile write goes to memory under its name. Nothing else changes it.
-pub(crate) fn store(memory: &mut [u16; 64], name: u16, op: SyncOp)
-    requires { LocatedOp op }
-    ensures { held memory.new ≡ stored name op (held memory.old) }
-{
-    if let SyncOp::VolatileWrite { location } = op {
-        memory[location as usize] = name;
+    // The name of the write that a location holds.
+    pub(crate) fn held(&self, location: u8) -> u16
+        requires { location < 64 }
+        ensures { result ≡ held self.now.writes location }
+    {
+        self.writes[location as usize]
+    }
+
+    // A location holds the write of this name from now on.
+    pub(crate) fn store(&mut self, location: u8, name: u16)
+        requires { location < 64 }
+        ensures writes { held self.new.writes ≡ upd (held self.old.writes) location name }
+        ensures turns { self.new.turns ≡ self.old.turns }
+    {
+        self.writes[location as usize] = name;
+    }
+
+    // A synchronization action comes: its turn passes, and a volatile write is stored under its name.
+    pub(crate) fn synchronize(&mut self, name: u16, turn: u16, op: SyncOp) -> Result<(), Mismatch>
+        requires { LocatedOp op }
+        ensures answer { result ≡ in_step turn op (held self.old.writes) self.old.turns }
+        ensures writes { OnOk result (held self.new.writes ≡ stored name op (held self.old.writes)) }
+        ensures turns { OnOk result (self.new.turns ≡ suc self.old.turns) }
+        ensures kept { OnErr result (self.new ≡ self.old) }
+    {
+        if u32::from(turn) != u32::from(self.turns) + 1 {
+            return Err(Mismatch::NotItsTurn);
+        }
+        match op {
+            SyncOp::VolatileRead { location, seen } if self.held(location) != seen => {
+                return Err(Mismatch::SawAnother);
+            }
+            SyncOp::VolatileWrite { location } => self.store(location, name),
+            _ => {}
+        }
+        self.turns = turn;
+        Ok(())
+    }
+
+    // An action comes with nothing between it and memory: a read saw what memory holds, a write is stored under its name.
+    pub(crate) fn come(&mut self, action: Action) -> Result<(), Mismatch>
+        requires { Located action }
+        ensures answer { result ≡ in_order action (held self.old.writes) self.old.turns }
+        ensures writes { OnOk result (held self.new.writes ≡ written action (held self.old.writes)) }
+        ensures turns { OnOk result (self.new.turns ≡ turned action self.old.turns) }
+        ensures kept { OnErr result (self.new ≡ self.old) }
+    {
+        match action {
+            Action::Read { location, seen, .. } if self.held(location) != seen => Err(
+                Mismatch::SawAnother,
+            ),
+            Action::Read { .. } => Ok(()),
+            Action::Write { name, location } => {
+                self.store(location, name);
+                Ok(())
+            }
+            Action::Sync { name, turn, op } => self.synchronize(name, turn, op),
+        }
     }
 }

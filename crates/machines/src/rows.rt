@@ -4,6 +4,8 @@
 // thread has at most 64 actions, and each of them joins at most once after a begin.
 ghost use Rattle.std.specs.Prelude.{◌<◌, ◌≤◌};
 
+use crate::memory::Memory;
+
 // A plain write that has not drained yet, by its place in its thread.
 #[derive(Clone, Copy)]
 pub struct PendingWrite {
@@ -23,10 +25,9 @@ pub struct Row {
     ghost within: { next ≤ 64 },
 }
 
-// The store-buffer machine of eight threads: the rows, the write that each location of memory holds, the turns passed.
+// The store-buffer machine of eight threads: their rows, and memory.
 #[derive(Clone, Copy)]
 pub struct Run {
     pub(crate) rows: [Row; 8],
-    pub(crate) memory: [u16; 64],
-    pub(crate) turns: u16,
+    pub(crate) memory: Memory,
 }

@@ -1,35 +1,33 @@
 // The run checker: the store-buffer machine, one item at a time.
-ghost use Rattle.std.specs.Prelude.{◌≡◌, ◌+◌, ◌<◌, List, [], ◌∷◌, ◌++◌, IfNone, OnErr};
-ghost use Rattle.records.specs.Actions.{LocatedOp};
+//
+// Rows are indexed behind a test of the thread: once a borrow by `get_mut` is over, a proof knows nothing of the rows.
+ghost use Rattle.std.specs.Prelude.{◌≡◌, ◌+◌, ◌<◌, map, [], ◌∷◌, ◌++◌, IfNone, OnErr};
 ghost use Rattle.records.specs.Names.{Case};
 ghost use Rattle.case.specs.Cases.{threads};
 ghost use Rattle.machines.specs.Faults.{told, run_number};
 ghost use Rattle.machines.specs.Machine.{answer, moved};
-ghost use Rattle.machines.specs.Rows.{window, next_of, run_state, newest_of, oldest, younger};
+ghost use Rattle.machines.specs.Memory.{held};
+ghost use Rattle.machines.specs.Rows.{window, waits_of, run_state, newest_of, oldest, younger};
 ghost use Rattle.machines.specs.Run.{fresh_run, run_step, perform as performed, drain as drained, sees as seen, run_machine};
 
 use crate::faults::RunFault;
 use crate::items::RunItem;
-use crate::memory;
+use crate::memory::Memory;
 use crate::rows::{PendingWrite, Row, Run};
 use case::checked::CheckedCase;
 use records::Item;
-use records::action::{Action, SyncOp};
+use records::action::Action;
+use records::names::named;
 
-// The place of the newest of these writes to a location: the newest if it fits, else the one among the older ones.
+// The place of the newest of these writes to a location.
 pub fn newest(waiting: &[PendingWrite], location: u8) -> Option<u8>
     ensures { result ≡ newest_of location waiting.now }
 {
-    match waiting {
-        [] => None,
-        [older @ .., last] => {
-            if last.location == location {
-                Some(last.place)
-            } else {
-                newest(older, location)
-            }
-        }
-    }
+    let write = waiting
+        .iter()
+        .rev()
+        .find(|write| write.location == location)?;
+    Some(write.place)
 }
 
 impl Row {
@@ -55,6 +53,17 @@ impl Row {
         &self.writes[self.from as usize..self.upto as usize]
     }
 
+    // What a plain read of a location sees: the newest waiting write to it, or what memory holds.
+    fn sees(&self, thread: u8, location: u8, memory: &Memory) -> u16
+        requires { location < 64 }
+        ensures { result ≡ seen location (map (waits_of thread) (window self.now)) (held memory.now.writes location) }
+    {
+        match newest(self.waiting(), location) {
+            Some(place) => named(thread, place),
+            None => memory.held(location),
+        }
+    }
+
     // The next action is performed, and nothing joins.
     fn pass(&mut self)
         requires { self.old.next < 64 }
@@ -65,12 +74,12 @@ impl Row {
     }
 
     // The next action is performed, a plain write, which joins the waiting ones.
-    fn join(&mut self, w: PendingWrite)
+    fn join(&mut self, write: PendingWrite)
         requires { self.old.next < 64 }
         ensures next { self.new.next ≡ self.old.next + 1 }
-        ensures waiting { window self.new ≡ window self.old ++ (w ∷ []) }
+        ensures waiting { window self.new ≡ window self.old ++ (write ∷ []) }
     {
-        self.writes[self.upto as usize] = w;
+        self.writes[self.upto as usize] = write;
         self.next += 1;
         self.upto += 1;
     }
@@ -85,9 +94,9 @@ impl Row {
         if self.from == self.upto {
             return None;
         }
-        let w = self.writes[self.from as usize];
+        let write = self.writes[self.from as usize];
         self.from += 1;
-        Some(w)
+        Some(write)
     }
 }
 
@@ -98,45 +107,8 @@ impl Run {
     {
         Run {
             rows: [Row::fresh(); 8],
-            memory: memory::fresh(),
-            turns: 0,
+            memory: Memory::fresh(),
         }
-    }
-
-    // What a plain read of a location sees in a thread.
-    fn sees(&self, thread: u8, location: u8) -> u16
-        requires thread { thread < 8 }
-        requires location { location < 64 }
-        ensures { (c : Case) → result ≡ seen location ((run_state c self.now).buffer thread) ((run_state c self.now).memory location) }
-    {
-        match newest(self.rows[thread as usize].waiting(), location) {
-            Some(place) => u16::from(thread) * 64 + u16::from(place),
-            None => self.memory[location as usize],
-        }
-    }
-
-    // A synchronization action needs an empty buffer, the next turn, and of a volatile read that it saw memory.
-    fn synchronize(&mut self, thread: u8, name: u16, turn: u16, op: SyncOp) -> Result<(), RunFault>
-        requires thread { thread < 8 }
-        requires next { next_of self.old.rows thread < 64 }
-        requires located { LocatedOp op }
-        ensures answer { (c : Case) (rs : List Action) → told run_number result ≡ answer (performed thread (run_state c self.old) (Action.Sync name turn op ∷ rs)) }
-        ensures after { (c : Case) (rs : List Action) → (run_state c self.old).rest thread ≡ Action.Sync name turn op ∷ rs → run_state c self.new ≡ moved (run_state c self.old) (performed thread (run_state c self.old) (Action.Sync name turn op ∷ rs)) }
-        ensures kept { OnErr result (self.new ≡ self.old) }
-    {
-        if !self.rows[thread as usize].waiting().is_empty() {
-            return Err(RunFault::WritesWait);
-        }
-        if u32::from(turn) != u32::from(self.turns) + 1 {
-            return Err(RunFault::NotItsTurn);
-        }
-        if !memory::agreed(&self.memory, op) {
-            return Err(RunFault::SawAnother);
-        }
-        memory::store(&mut self.memory, name, op);
-        self.turns = turn;
-        self.rows[thread as usize].pass();
-        Ok(())
     }
 
     // A: the thread performs its next action.
@@ -145,28 +117,29 @@ impl Run {
         ensures after { run_state (threads case.now) self.new ≡ moved (run_state (threads case.now) self.old) (performed thread (run_state (threads case.now) self.old) ((run_state (threads case.now) self.old).rest thread)) }
         ensures kept { OnErr result (self.new ≡ self.old) }
     {
-        let rows: &[Row] = &self.rows;
-        if thread as usize >= rows.len() {
+        if thread as usize >= self.rows.len() {
             return Err(RunFault::NoAction);
         }
-        let place = rows[thread as usize].next;
-        let Some(action) = case.action(thread, place) else {
-            return Err(RunFault::NoAction);
-        };
+        let row = &mut self.rows[thread as usize];
+        let place = row.next;
+        let action = case.action(thread, place).ok_or(RunFault::NoAction)?;
         match action {
             Action::Read { location, seen, .. } => {
-                if self.sees(thread, location) != seen {
+                if row.sees(thread, location, &self.memory) != seen {
                     return Err(RunFault::SawAnother);
                 }
-                self.rows[thread as usize].pass();
-                Ok(())
+                row.pass();
             }
-            Action::Write { location, .. } => {
-                self.rows[thread as usize].join(PendingWrite { place, location });
-                Ok(())
+            Action::Write { location, .. } => row.join(PendingWrite { place, location }),
+            Action::Sync { name, turn, op } => {
+                if !row.waiting().is_empty() {
+                    return Err(RunFault::WritesWait);
+                }
+                self.memory.synchronize(name, turn, op)?;
+                row.pass();
             }
-            Action::Sync { name, turn, op } => self.synchronize(thread, name, turn, op),
         }
+        Ok(())
     }
 
     // D: the thread's oldest waiting write goes to memory.
@@ -175,17 +148,14 @@ impl Run {
         ensures after { (c : Case) → run_state c self.new ≡ moved (run_state c self.old) (drained thread (run_state c self.old) ((run_state c self.old).buffer thread)) }
         ensures kept { OnErr result (self.new ≡ self.old) }
     {
-        let rows: &[Row] = &self.rows;
-        if thread as usize >= rows.len() {
+        if thread as usize >= self.rows.len() {
             return Err(RunFault::NothingWaits);
         }
-        match self.rows[thread as usize].leave() {
-            None => Err(RunFault::NothingWaits),
-            Some(w) => {
-                self.memory[w.location as usize] = u16::from(thread) * 64 + u16::from(w.place);
-                Ok(())
-            }
-        }
+        let row = &mut self.rows[thread as usize];
+        let write = row.leave().ok_or(RunFault::NothingWaits)?;
+        self.memory
+            .store(write.location, named(thread, write.place));
+        Ok(())
     }
 
     // Starts anew for a case.
@@ -211,11 +181,7 @@ impl Run {
     pub fn finished(&self, case: &CheckedCase) -> bool
         ensures { result ≡ (run_machine (threads case.now)).complete (run_state (threads case.now) self.now) }
     {
-        for thread in 0..8u8 {
-            if (self.rows[thread as usize].next as usize) < case.thread(thread).len() {
-                return false;
-            }
-        }
-        true
+        let mut rows = self.rows.iter().zip(0..8u8);
+        rows.all(|(row, thread)| row.next as usize >= case.thread(thread).len())
     }
 }

@@ -1,24 +1,21 @@
-use Rattle.std.proofs.Common.{◌≡◌, length, sym, ap, arith, rules, below_more}
+use Rattle.std.proofs.Common.{◌<◌, ◌≤◌, length, ap, arith, rules, tests}
+use Rattle.std.proofs.lemmas.Iterator.{YieldsList-from_slice, YieldsList-from_range, YieldsList-from_zip, cases_from_all}
+use Rattle.std.proofs.lemmas.Iterator.Consumers.{YieldsList-at}
+use Rattle.records.specs.Names.{thread}
 use Rattle.case.specs.Cases.{threads}
 use Rattle.machines.specs.Run.{isNil}
 use Rattle.machines.proofs.Lefts.{lefts, lefts-none, lefts-more}
-use Rattle.machines.proofs.Spent.{spent_all, spent_not}
+use Rattle.machines.proofs.Spent.{spent_by}
+use Rattle.machines.proofs.Threads.{thread_few}
 use Rattle.machines.proofs.lists.Certificate.finished.Goals as goal
 
-pub returns-then-self-thread : goal.returns-then-self-thread
-returns-then-self-thread c =
-    let k = threads c.args.case.now in
-    let lists = c.args.self.now.lists in
-    let t = c.loop-thread.thread in
-    let long : length c.args.self.now.lists ≡ 8 = search rules in
-    let l = c.thread.ensures.len in
-    sym (spent_not (lefts k lists) 8 t (omega arith) (ap isNil (lefts-more k lists t c.index-self-thread.result (omega arith) (omega (arith, c.thread.ensures.few)) (omega arith))))
-
-pub loop-thread-preserved : goal.loop-thread-preserved
-loop-thread-preserved c =
-    let long : length c.args.self.now.lists ≡ 8 = search rules in
-    let l = c.thread.ensures.len in
-    below_more _ _ c.loop-thread.invariant (ap isNil (lefts-none (threads c.args.case.now) c.args.self.now.lists c.loop-thread.thread c.index-self-thread.result (omega arith) (omega arith)))
-
 pub returns : goal.returns
-returns c = sym (spent_all (lefts (threads c.args.case.now) c.args.self.now.lists) 8 (λ k h. c.loop-thread.invariant k (omega arith)))
+returns c =
+    let k = c.args.case.now in
+    let cs = threads k in
+    let lists = c.args.self.now.lists in
+    spent_by (λ l. l.next) cs (lefts cs lists) lists (search rules)
+    (λ t d h e. ap isNil (lefts-none cs lists t d (omega arith) e)) (λ t d h e. ap isNil (lefts-more cs lists t d (omega arith) (thread_few k t) e)) c.all.result
+    (cases_from_all c.all.new.self _ c.all.result (λ p. length (thread cs p.1) ≤ p.0.next) (λ p. p.0.next < length (thread cs p.1)) c.all.ensures.ran
+    (YieldsList-from_zip (YieldsList-at c.zip-lists.ensures.first (YieldsList-from_slice lists c.iter.ensures.rest)) (YieldsList-from_range 0 8 8 c.zip-lists.ensures.second (omega arith)))
+    (λ x q k. search (rules, tests)) (λ x q k. search (rules, tests)))

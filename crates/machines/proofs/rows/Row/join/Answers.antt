@@ -5,4 +5,4 @@ use Rattle.machines.proofs.rows.Row.join.Goals as goal
 pub returns : goal.returns
 returns c =
     let row = c.args.self.now in
-    record { next = refl; waiting = window_more row.writes row.from row.upto c.args.w (omega arith) (omega arith) }
+    record { next = refl; waiting = window_more row.writes row.from row.upto c.args.write (omega arith) (omega arith) }

@@ -11,7 +11,7 @@ use Rattle.conversions.specs.Along.{Own, performed, drained}
 use Rattle.conversions.proofs.Hosted.{host_of, hosts_of, positive, positive-some, positive-none, holds-stay, joins-hosts}
 
 -- ── The next action of what is left ──
-pub next-none : (l : List Action) (p : ℕ) → drop p l ≡ [] → slice_get l p ≡ None
+next-none : (l : List Action) (p : ℕ) → drop p l ≡ [] → slice_get l p ≡ None
 next-none [] p e = refl
 next-none (a ∷ l) zero e = absurd (cons≢nil a l e)
 next-none (a ∷ l) (suc p) e = next-none l p e

@@ -13,6 +13,5 @@ pub mod Followed
 pub mod OwnMoves
 pub mod OneOrder
 pub mod Whole
--- Evidence held to its checker, and the run of a certificate
-pub mod Examining
+-- The run of a certificate
 pub mod Replaying

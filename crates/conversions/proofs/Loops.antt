@@ -17,9 +17,6 @@ module _ {S Y : Type 0} (along : List Y → S → List Item) (adds : Y → S →
       leads-same first (along run start) now
       (ap (λ ys. along ys s) (drop_more run i d l) ∙ cons (get_or run i d) (drop (i + 1) run) s) h
 
-  pub item_room : Room (adds (get_or run i d) s) now
-  item_room = leads-room first (along run start) now _ _ room item
-
   pub item-more : (s' : S) (now' : Sheet) → s' ≡ next (get_or run i d) s → Adds (adds (get_or run i d) s) now now'
       → Leads first (along run start) now' (along (drop (i + 1) run) s')
   item-more s' now' e a =

@@ -6,7 +6,7 @@ use Rattle.conversions.specs.declared.sheet.Sheet.{Sheet}
 use Rattle.conversions.specs.Hosts.{width}
 use Rattle.conversions.specs.Along.{move_of, passes, moves_before}
 use Rattle.conversions.specs.Sheets.{Adds, Room}
-use Rattle.conversions.proofs.Sheets.{Leads, leads-start, leads-same, leads-room, leads-more, leads-all}
+use Rattle.conversions.proofs.Sheets.{Leads, leads-start, leads-same, leads-room, leads-more}
 use Rattle.conversions.proofs.Staying.{passes_push, width-append}
 
 module _ (t place : ℕ) (hs : List Host) (first : Sheet) where
@@ -29,9 +29,6 @@ module _ (t place : ℕ) (hs : List Host) (first : Sheet) where
         ahead = let w = ap width e in omega arith;
         leads = leads-same first whole first (ap (passes t b) (sym e)) (leads-start first whole);
       }
-
-  pub left-none : (older : List Host) (before : ℕ) (now : Sheet) → older ≡ [] → Left older before now → Adds whole first now
-  left-none older before now e h = leads-all first whole now (leads-same first whole now (ap (passes t b) e) h.leads)
 
   -- the newest of those that are left is passed
   module _ (room : Room whole first) (host : Host) (older rest : List Host) (before : ℕ) (now : Sheet)

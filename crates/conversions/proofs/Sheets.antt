@@ -7,15 +7,6 @@ use Rattle.conversions.specs.Fronts.{put}
 use Rattle.conversions.specs.Sheets.{Adds, Room}
 use Rattle.conversions.proofs.Fronts.{put-nil, length-put, put-put}
 
--- nothing is written
-pub adds_none : (xs : List Item) (s : Sheet) → [] ≡ xs → Adds xs s s
-adds_none xs s e =
-    record {
-      same = refl;
-      list = sym (put-nil s.at s.items.now) ∙ ap (λ l. put s.at l s.items.now) e;
-      upto = let n = ap length e in omega arith;
-    }
-
 pub adds_both : (xs ys : List Item) (s t u : Sheet) → Room (xs ++ ys) s → Adds xs s t → Adds ys t u → Adds (xs ++ ys) s u
 adds_both xs ys s t u room f g =
     record {

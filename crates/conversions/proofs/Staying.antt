@@ -2,8 +2,8 @@
 use Rattle.std.proofs.Common.{◌≡◌, ℕ, zero, suc, ◌+◌, ◌-◌, ◌<◌, ◌≤◌, Bool, true, false, cond, eqb, List, [], ◌∷◌, ◌++◌, map, sum, length, get_or, take, drop, set, sym, refl, ap, ◌∙◌, arith}
 use lib.Seq.{take-set-lt}
 use Rattle.std.specs.List.{between}
-use Rattle.std.proofs.lemmas.List.{length-append, take_rest, drop-set-add, take-append-drop}
-use Rattle.std.proofs.lemmas.List.Edits.{get_or-between}
+use Rattle.std.proofs.lemmas.List.{take_rest, drop-set-add, take-append-drop}
+use Rattle.std.proofs.lemmas.List.Edits.{length-between, get_or-between}
 use Rattle.std.proofs.lemmas.List.Sums.{sum_by-cons}
 use Rattle.std.proofs.lemmas.Bool.{cond-true, cond-false, eq-eqb, ne_eqb}
 use Rattle.records.specs.declared.Item.{Item}
@@ -30,6 +30,9 @@ stay-within x (h ∷ hs) = go (stay x hs) (eqb x h.location) (stay-within x hs)
     go zero true l = omega arith
     go zero false l = omega arith
     go (suc n) b l = omega arith
+
+-- a read stays within the hosts that wait
+pub ruleset staying = (stay-within, length-between)
 
 -- the newest of the hosts is to x or not
 module _ (x : ℕ) (older : List Host) (h : Host) where
@@ -94,9 +97,3 @@ passes_push t b (g ∷ hs) h =
     let e : b + suc g.joined + width hs ≡ b + suc (g.joined + width hs) = omega arith in
     ap {B = List Item} (λ l. l ++ (move_of t b g.joined ∷ [])) (passes_push t (b + suc g.joined) hs h)
     ∙ ap {B = List Item} (λ p. move_of t p h.joined ∷ passes t b (g ∷ hs)) e
-
-pub length-passes : (t b : ℕ) (hs : List Host) → length (passes t b hs) ≡ length hs
-length-passes t b [] = refl
-length-passes t b (h ∷ hs) =
-    let a = length-passes t (b + suc h.joined) hs in
-    length-append (passes t (b + suc h.joined) hs) (move_of t b h.joined ∷ []) ∙ omega arith

@@ -22,9 +22,9 @@ pub(crate) fn examine<K: Evidence + Drop, F: FnOnce() -> K>(
     let mut checker = new();
     checker.begin(case);
     for (place, item) in evidence.iter().enumerate() {
-        if let Err(fault) = checker.put(case, *item) {
-            return Err(ConversionFault::Refused { fault, place });
-        }
+        checker
+            .put(case, *item)
+            .map_err(|fault| ConversionFault::Refused { fault, place })?;
     }
     if !checker.finished(case) {
         return Err(ConversionFault::Unfinished);

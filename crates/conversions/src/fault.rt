@@ -3,6 +3,7 @@ ghost use Rattle.std.specs.Prelude.{◌≡◌};
 ghost use Rattle.conversions.specs.Faults.{told};
 
 use machines::faults::ItemFault;
+use std::error::Error;
 use std::fmt;
 
 // F is why the checker refuses an item.
@@ -55,3 +56,5 @@ impl<F: ItemFault> fmt::Display for ConversionFault<F> {
         }
     }
 }
+
+impl<F: ItemFault + fmt::Debug> Error for ConversionFault<F> {}

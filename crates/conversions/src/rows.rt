@@ -78,6 +78,7 @@ impl Row {
     }
 
     // A plain read is performed, and joins the newest host to its location; where there is none, it comes now.
+    #[tactic(auto, using(crate::proofs::Staying::staying))]
     fn join(&mut self, location: u8) -> u8
         requires { self.old.next < 64 }
         ensures value { result ≡ unhosted (stays_at location (window self.old)) }

@@ -1,21 +1,8 @@
-use Rattle.std.proofs.Common.{◌≤◌, length, ap, arith, rules}
+use Rattle.std.proofs.Common.{ap, arith}
 use Rattle.conversions.specs.Hosts.{width, stay}
 use Rattle.conversions.specs.Rows.{window}
-use Rattle.conversions.proofs.Staying.{stay-within, passed-are, width-drop}
+use Rattle.conversions.proofs.Staying.{passed-are, width-drop}
 use Rattle.conversions.proofs.moves.moves_of_next.Goals as goal
-
-pub slice_bounds-pass-count : goal.slice_bounds-pass-count
-slice_bounds-pass-count c = let l = stay-within c.in-Some-Read.location c.waiting-waiting.result.now in omega (arith, c.stay_at-stay.ensures)
-
-pub offset_bounds-waiting-stay : goal.offset_bounds-waiting-stay
-offset_bounds-waiting-stay c =
-    let l : c.stay_at-stay.result ≤ length c.waiting-waiting.result.now = slice_bounds-pass-count c in
-    search rules
-
-pub slice_bounds-pass-start : goal.slice_bounds-pass-start
-slice_bounds-pass-start c =
-    let l : c.stay_at-stay.result ≤ length c.waiting-waiting.result.now = slice_bounds-pass-count c in
-    search rules
 
 pub pass-requires-clause-before : goal.pass-requires-clause-before
 pass-requires-clause-before c =

@@ -1,11 +1,10 @@
-use Rattle.std.proofs.Common.{◌≡◌, ℕ, ◌+◌, ◌-◌, ◌<◌, ◌≤◌, List, length, get_or, set, sym, ap, ◌∙◌, add-one, arith, rules}
+use Rattle.std.proofs.Common.{◌≡◌, ℕ, ◌+◌, ◌-◌, ◌<◌, ◌≤◌, List, length, get_or, set, ap, ◌∙◌, arith, rules}
 use Rattle.std.specs.List.{between}
 use Rattle.std.proofs.lemmas.List.Edits.{length-between, get_or-between}
 use Rattle.conversions.specs.declared.rows.Row.{Row}
 use Rattle.conversions.specs.Hosts.{new_host, width, stay, raised, joins_at}
-use Rattle.conversions.specs.Along.{unhosted}
 use Rattle.conversions.specs.Rows.{window}
-use Rattle.conversions.proofs.Staying.{stay-within, joined_small, unhosted-some, width-joins, window-joins}
+use Rattle.conversions.proofs.Staying.{stay-within, joined_small, width-joins, window-joins}
 use Rattle.conversions.specs.declared.hosts.Host.{Host}
 use Rattle.conversions.proofs.rows.Row.join.Goals as goal
 
@@ -44,48 +43,24 @@ module _ (row : Row) (x n : ℕ) (ws : List Host) (are : ws ≡ window row) (is 
       let k = row.counted in
       omega arith
 
-pub overflow_add-self-2 : goal.overflow_add-self-2
-overflow_add-self-2 c =
-    let i = inside c.args.self.now c.args.location c.stay_at-stay.result _ c.waiting.ensures c.stay_at-stay.ensures c.if-stay-eq0.false (omega arith) in
-    search rules
-
-pub offset_bounds-self-self : goal.offset_bounds-self-self
-offset_bounds-self-self c =
-    let i = inside c.args.self.now c.args.location c.stay_at-stay.result _ c.waiting.ensures c.stay_at-stay.ensures c.if-stay-eq0.false (omega arith) in
-    search rules
-
-pub bounds-self-self : goal.bounds-self-self
-bounds-self-self c =
-    let i = inside c.args.self.now c.args.location c.stay_at-stay.result _ c.waiting.ensures c.stay_at-stay.ensures c.if-stay-eq0.false (omega arith) in
-    omega arith
-
-pub bounds-self-self-2 : goal.bounds-self-self-2
-bounds-self-self-2 c =
-    let i = inside c.args.self.now c.args.location c.stay_at-stay.result _ c.waiting.ensures c.stay_at-stay.ensures c.if-stay-eq0.false (omega arith) in
-    omega arith
-
 pub overflow_add-self-3 : goal.overflow_add-self-3
 overflow_add-self-3 c =
     let s = small c.args.self.now c.args.location c.stay_at-stay.result _ c.waiting.ensures c.stay_at-stay.ensures c.if-stay-eq0.false (omega arith) in
     search rules
 
-pub invariant_of-self-2 : goal.invariant_of-self-2
-invariant_of-self-2 c =
+pub invariant_of-self-2-clause-counted : goal.invariant_of-self-2-clause-counted
+invariant_of-self-2-clause-counted c =
     let row = c.args.self.now in
     let x = c.args.location in
     let n = c.stay_at-stay.result in
     let e = ap width (joins row x n _ c.waiting.ensures c.stay_at-stay.ensures c.if-stay-eq0.false (omega arith)) in
     let w = wider row x n _ c.waiting.ensures c.stay_at-stay.ensures c.if-stay-eq0.false (omega arith) in
-    record { ordered = omega arith; behind = omega arith; within = omega arith; counted = omega arith }
+    omega arith
 
-pub returns : goal.returns
-returns c =
+pub returns-clause-hosts : goal.returns-clause-hosts
+returns-clause-hosts c =
     let row = c.args.self.now in
     let x = c.args.location in
     let n = c.stay_at-stay.result in
-    let s = stays row x n _ c.waiting.ensures c.stay_at-stay.ensures c.if-stay-eq0.false (omega arith) in
-    record {
-      value = sym (ap unhosted (sym s) ∙ unhosted-some n (let z = c.if-stay-eq0.false in omega arith));
-      next = add-one row.next;
-      hosts = joins row x n _ c.waiting.ensures c.stay_at-stay.ensures c.if-stay-eq0.false (omega arith) ∙ ap (λ k. joins_at k (window row)) s;
-    }
+    joins row x n _ c.waiting.ensures c.stay_at-stay.ensures c.if-stay-eq0.false (omega arith)
+    ∙ ap (λ k. joins_at k (window row)) (stays row x n _ c.waiting.ensures c.stay_at-stay.ensures c.if-stay-eq0.false (omega arith))

@@ -1,8 +1,8 @@
 -- What is promised of a whole list of calls, worked off on a docket with tickets in slots beside it.
 use Rattle.std.specs.Prelude.{◌≡◌, ℕ, true, List, map, length, take, None, Option, slice_index_or}
 use Rattle.records.specs.declared.Item.{Item}
-use Rattle.case.specs.declared.checked.CheckedCase.{CheckedCase}
 use Rattle.machines.specs.Machine.{Machine, completes}
+use Rattle.kinds.specs.declared.Evidence.{Ghosts}
 use Rattle.docket.specs.declared.Docket.{Docket}
 use Rattle.docket.specs.declared.calls.Answer.{Answer}
 use Rattle.docket.specs.declared.calls.Call.{Call}
@@ -24,13 +24,13 @@ TidySlots h calls h' = (k : ℕ) → tidy k calls ≡ true → slice_index_or h 
 
 -- ── Told by a desk ──
 module _ {S : Type 0} (m : Machine S) (number : ℕ) (e : Desk) (calls : List Call) where
-  -- all answers, which stand in front of the caller's list, are the plain docket's
-  abbrev pub Answered : List (Option Answer) → Type 0
-  Answered after = map says_any (take (length calls) after) ≡ replies m number e calls
+  -- all answers, which stand in front of the caller's list, are the plain docket's; f numbers the kind's reasons
+  abbrev pub Answered : {F : Type 0} → (F → ℕ) → List (Option (Answer F)) → Type 0
+  Answered f after = map (says_any f) (take (length calls) after) ≡ replies m number e calls
 
   -- each settling rules on the items taken since the last granted opening
-  abbrev pub RuledOnItems : List (Option Answer) → Type 0
-  RuledOnItems after = AllRuled m e.plain.items calls (map says_any (take (length calls) after))
+  abbrev pub RuledOnItems : {F : Type 0} → (F → ℕ) → List (Option (Answer F)) → Type 0
+  RuledOnItems f after = AllRuled m e.plain.items calls (map (says_any f) (take (length calls) after))
 
   -- the slots hold the tickets that the replies leave
   abbrev pub SlotsLeft : Held → Type 0
@@ -41,22 +41,22 @@ module _ {S : Type 0} (m : Machine S) (number : ℕ) (e : Desk) (calls : List Ca
   CountsLeft c = Counted c (worked m number e calls).plain
 
 -- ── Told by every plain docket that a docket d stands for ──
-module _ {K S : Type 0} (machine : CheckedCase → Machine S) (state : CheckedCase → K → S) (d : Docket K) (h : Held) (calls : List Call) where
+module _ {K F : Type 0} (kind : Ghosts K F) (d : Docket K F) (h : Held) (calls : List Call) where
   abbrev pub ForPlain : (Plain → Type 0) → Type 0
-  ForPlain P = (p : Plain) → Stands machine state d p → P p
+  ForPlain P = (p : Plain) → Stands kind d p → P p
 
-  abbrev pub PlainAnswers : List (Option Answer) → Type 0
-  PlainAnswers after = ForPlain (λ p. Answered (machine d.case) d.number (desk p h) calls after)
+  abbrev pub PlainAnswers : (F → ℕ) → List (Option (Answer F)) → Type 0
+  PlainAnswers f after = ForPlain (λ p. Answered (kind.machine d.case) d.number (desk p h) calls f after)
 
-  abbrev pub PlainRulings : List (Option Answer) → Type 0
-  PlainRulings after = ForPlain (λ p. RuledOnItems (machine d.case) d.number (desk p h) calls after)
+  abbrev pub PlainRulings : (F → ℕ) → List (Option (Answer F)) → Type 0
+  PlainRulings f after = ForPlain (λ p. RuledOnItems (kind.machine d.case) d.number (desk p h) calls f after)
 
   abbrev pub PlainSlots : Held → Type 0
-  PlainSlots h' = ForPlain (λ p. SlotsLeft (machine d.case) d.number (desk p h) calls h')
+  PlainSlots h' = ForPlain (λ p. SlotsLeft (kind.machine d.case) d.number (desk p h) calls h')
 
   abbrev pub PlainCounts : Counts → Type 0
-  PlainCounts c = ForPlain (λ p. CountsLeft (machine d.case) d.number (desk p h) calls c)
+  PlainCounts c = ForPlain (λ p. CountsLeft (kind.machine d.case) d.number (desk p h) calls c)
 
   -- the docket stands for what the plain one has become
-  abbrev pub StillStands : Docket K → Type 0
-  StillStands d' = ForPlain (λ p. Stands machine state d' (worked (machine d.case) d.number (desk p h) calls).plain)
+  abbrev pub StillStands : Docket K F → Type 0
+  StillStands d' = ForPlain (λ p. Stands kind d' (worked (kind.machine d.case) d.number (desk p h) calls).plain)

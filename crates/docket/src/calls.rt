@@ -14,10 +14,10 @@ pub enum Call {
 }
 
 #[derive(Clone, Copy, Debug, PartialEq)]
-pub enum Answer {
+pub enum Answer<F> {
     Opened(TicketName),
     Taken,
     Settled(Verdict),
     Withdrawn(u16),
-    Refused(DocketFault),
+    Refused(DocketFault<F>),
 }

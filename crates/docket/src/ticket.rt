@@ -9,8 +9,10 @@ pub struct TicketName {
     pub examination: u16,
 }
 
+#[must_use]
 pub struct Ticket {
     name: TicketName,
+    // a flag, and no type without `Drop`: so a ticket that lapses is a fact that is not proved, which must-fail edits can try
     spent: bool,
 }
 

@@ -5,12 +5,12 @@
 // whole: the answers, the verdicts, the tickets and the counts are the plain docket's, and the model allows the case
 // exactly when there is complete evidence. `session` says it of a new docket, `work_off` of any, by the plain docket
 // that it stands for.
-ghost use Rattle.std.specs.Prelude.{◌≡◌, ◌≤◌, true, false, length, drop, is_ok, IfOk, IfErr, OnOk, nat_le};
+ghost use Rattle.std.specs.Prelude.{◌≡◌, ◌≤◌, Some, None, length, drop, is_ok, IfOk, IfErr, OnOk, OnErr, MatchResult, nat_le};
 ghost use Rattle.docket.specs.Promise.{ByEvidence, Answered, RuledOnItems, SlotsLeft, CountsLeft, TidySlots, PlainAnswers, PlainRulings, PlainSlots, PlainCounts, StillStands};
 ghost use Rattle.docket.specs.Plain.{empty};
 ghost use Rattle.docket.specs.Slots.{desk, worked};
 ghost use Rattle.docket.specs.Standing.{Balanced, Stands};
-ghost use Rattle.docket.specs.Working.{Acted};
+ghost use Rattle.docket.specs.Working.{refused_ticket, Acted};
 
 use crate::Docket;
 use crate::calls::{Answer, Call};
@@ -19,18 +19,40 @@ use crate::ticket::Ticket;
 use case::checked::CheckedCase;
 use kinds::Evidence;
 use records::Item;
+use std::error::Error;
+use std::fmt;
+
+// There are more calls than places for their answers.
+#[derive(Clone, Copy, Debug, PartialEq)]
+pub struct TooFewAnswers;
+
+impl fmt::Display for TooFewAnswers {
+    fn fmt<W: fmt::Write>(&self, f: &mut fmt::Formatter<W>) -> fmt::Result {
+        f.write_str("there are more calls than places for answers")
+    }
+}
+
+impl Error for TooFewAnswers {}
+
+// The answer to a ticket that is handed back, which is put into its slot again.
+fn refused<F>(slot: &mut Option<Ticket>, back: HandedBack) -> Answer<F>
+    requires { slot.old ≡ None }
+    ensures answer { result ≡ refused_ticket back.fault }
+    ensures again { slot.new ≡ Some back.ticket }
+{
+    let HandedBack { fault, ticket } = back;
+    *slot = Some(ticket);
+    Answer::Refused(fault.into())
+}
 
 fn open_at<K: Evidence>(
     docket: &mut Docket<K>,
     held: &mut [Option<Ticket>],
     slot: usize,
-) -> Option<Answer>
-    ensures acted { Acted K.machine K.state docket.old held.old (Call.Open slot) result docket.new held.new }
+) -> Option<Answer<K::Fault>>
+    ensures acted { Acted K.Evidence K.Fault.number docket.old held.old (Call.Open slot) result docket.new held.new }
 {
-    if slot >= held.len() {
-        return None;
-    }
-    if held[slot].is_some() {
+    if held.get(slot)?.is_some() {
         return None;
     }
     match docket.open() {
@@ -39,7 +61,7 @@ fn open_at<K: Evidence>(
             held[slot] = Some(ticket);
             Some(Answer::Opened(name))
         }
-        Err(fault) => Some(Answer::Refused(fault)),
+        Err(fault) => Some(Answer::Refused(fault.into())),
     }
 }
 
@@ -48,62 +70,50 @@ fn offer_at<K: Evidence>(
     held: &[Option<Ticket>],
     slot: usize,
     item: Item,
-) -> Option<Answer>
-    ensures acted { Acted K.machine K.state docket.old held.now (Call.Offer slot item) result docket.new held.now }
+) -> Option<Answer<K::Fault>>
+    ensures acted { Acted K.Evidence K.Fault.number docket.old held.now (Call.Offer slot item) result docket.new held.now }
 {
-    if slot >= held.len() {
-        return None;
-    }
-    match &held[slot] {
-        None => None,
-        Some(ticket) => match docket.offer(ticket, item) {
-            Ok(()) => Some(Answer::Taken),
-            Err(fault) => Some(Answer::Refused(fault)),
-        },
+    let ticket = held.get(slot)?.as_ref()?;
+    match docket.offer(ticket, item) {
+        Ok(()) => Some(Answer::Taken),
+        Err(fault) => Some(Answer::Refused(fault)),
     }
 }
 
+// Of a slot lent by `get_mut` nothing is known afterwards (tried): so here and below the slot's number is tested.
+#[tactic(auto, using(crate::proofs::Refilling::put_back))]
 fn settle_at<K: Evidence>(
     docket: &mut Docket<K>,
     held: &mut [Option<Ticket>],
     slot: usize,
-) -> Option<Answer>
-    ensures acted { Acted K.machine K.state docket.old held.old (Call.Settle slot) result docket.new held.new }
+) -> Option<Answer<K::Fault>>
+    ensures acted { Acted K.Evidence K.Fault.number docket.old held.old (Call.Settle slot) result docket.new held.new }
 {
     if slot >= held.len() {
         return None;
     }
-    match held[slot].take() {
-        None => None,
-        Some(ticket) => match docket.settle(ticket) {
-            Ok(verdict) => Some(Answer::Settled(verdict)),
-            Err(HandedBack { fault, ticket }) => {
-                held[slot] = Some(ticket);
-                Some(Answer::Refused(fault))
-            }
-        },
+    let ticket = held[slot].take()?;
+    match docket.settle(ticket) {
+        Ok(verdict) => Some(Answer::Settled(verdict)),
+        Err(back) => Some(refused(&mut held[slot], back)),
     }
 }
 
+#[tactic(auto, using(crate::proofs::Refilling::put_back))]
 fn withdraw_at<K: Evidence>(
     docket: &mut Docket<K>,
     held: &mut [Option<Ticket>],
     slot: usize,
-) -> Option<Answer>
-    ensures acted { Acted K.machine K.state docket.old held.old (Call.Withdraw slot) result docket.new held.new }
+) -> Option<Answer<K::Fault>>
+    ensures acted { Acted K.Evidence K.Fault.number docket.old held.old (Call.Withdraw slot) result docket.new held.new }
 {
     if slot >= held.len() {
         return None;
     }
-    match held[slot].take() {
-        None => None,
-        Some(ticket) => match docket.withdraw(ticket) {
-            Ok(items) => Some(Answer::Withdrawn(items)),
-            Err(HandedBack { fault, ticket }) => {
-                held[slot] = Some(ticket);
-                Some(Answer::Refused(fault))
-            }
-        },
+    let ticket = held[slot].take()?;
+    match docket.withdraw(ticket) {
+        Ok(items) => Some(Answer::Withdrawn(items)),
+        Err(back) => Some(refused(&mut held[slot], back)),
     }
 }
 
@@ -112,8 +122,8 @@ fn act<K: Evidence>(
     docket: &mut Docket<K>,
     held: &mut [Option<Ticket>],
     call: Call,
-) -> Option<Answer>
-    ensures acted { Acted K.machine K.state docket.old held.old call result docket.new held.new }
+) -> Option<Answer<K::Fault>>
+    ensures acted { Acted K.Evidence K.Fault.number docket.old held.old call result docket.new held.new }
 {
     match call {
         Call::Open(slot) => open_at(docket, held, slot),
@@ -123,35 +133,36 @@ fn act<K: Evidence>(
     }
 }
 
+// The docket and the slots go side by side: a value that borrows both needs a clause in each method that it still does.
 // Works a list of calls off, in its order, each with the ticket in the slot that it names, and writes the answers to the
-// front of a list. False, with nothing done, where there are more calls than places for answers.
+// front of a list. Where there are more calls than places for answers, nothing is done.
 pub fn work_off<K: Evidence>(
     docket: &mut Docket<K>,
     held: &mut [Option<Ticket>],
     calls: &[Call],
-    answers: &mut [Option<Answer>],
-) -> bool
-    ensures room { result ≡ nat_le (length calls.now) (length answers.old) }
-    ensures untouched { result ≡ false → (docket.new ≡ docket.old) × (held.new ≡ held.old) × (answers.new ≡ answers.old) }
+    answers: &mut [Option<Answer<K::Fault>>],
+) -> Result<(), TooFewAnswers>
+    ensures room { is_ok result ≡ nat_le (length calls.now) (length answers.old) }
+    ensures untouched { OnErr result ((docket.new ≡ docket.old) × (held.new ≡ held.old) × (answers.new ≡ answers.old)) }
     ensures case { docket.new.case ≡ docket.old.case }
     ensures number { docket.new.number ≡ docket.old.number }
     ensures rest { drop (length calls.now) answers.new ≡ drop (length calls.now) answers.old }
-    ensures answers { result ≡ true → PlainAnswers K.machine K.state docket.old held.old calls.now answers.new }
-    ensures tickets { result ≡ true → PlainSlots K.machine K.state docket.old held.old calls.now held.new }
-    ensures stands { result ≡ true → StillStands K.machine K.state docket.old held.old calls.now docket.new }
-    ensures rulings { result ≡ true → PlainRulings K.machine K.state docket.old held.old calls.now answers.new }
-    ensures counts { result ≡ true → PlainCounts K.machine K.state docket.old held.old calls.now docket.new.counts }
+    ensures answers { OnOk result (PlainAnswers K.Evidence docket.old held.old calls.now K.Fault.number answers.new) }
+    ensures tickets { OnOk result (PlainSlots K.Evidence docket.old held.old calls.now held.new) }
+    ensures stands { OnOk result (StillStands K.Evidence docket.old held.old calls.now docket.new) }
+    ensures rulings { OnOk result (PlainRulings K.Evidence docket.old held.old calls.now K.Fault.number answers.new) }
+    ensures counts { OnOk result (PlainCounts K.Evidence docket.old held.old calls.now docket.new.counts) }
     ensures balanced { Balanced docket.new.counts }
     ensures single { docket.new.counts.«open» ≤ 1 }
     ensures model { ByEvidence (K.machine docket.old.case) (K.allows docket.old.case) }
 {
     if calls.len() > answers.len() {
-        return false;
+        return Err(TooFewAnswers);
     }
     for (i, call) in calls.iter().enumerate() {
         answers[i] = act(docket, held, *call);
     }
-    true
+    Ok(())
 }
 
 // The same on a new docket, whose number and case these are: the docket, or the checker again where there is no room.
@@ -161,16 +172,16 @@ pub fn session<K: Evidence>(
     number: u16,
     held: &mut [Option<Ticket>],
     calls: &[Call],
-    answers: &mut [Option<Answer>],
+    answers: &mut [Option<Answer<K::Fault>>],
 ) -> Result<Docket<K>, K>
     ensures room { is_ok result ≡ nat_le (length calls.now) (length answers.old) }
     ensures untouched { IfErr result (λ k. (k ≡ checker) × (held.new ≡ held.old) × (answers.new ≡ answers.old)) }
-    ensures answers { OnOk result (Answered (K.machine case.now) number (desk empty held.old) calls.now answers.new) }
+    ensures answers { OnOk result (Answered (K.machine case.now) number (desk empty held.old) calls.now K.Fault.number answers.new) }
     ensures rest { drop (length calls.now) answers.new ≡ drop (length calls.now) answers.old }
-    ensures rulings { OnOk result (RuledOnItems (K.machine case.now) number (desk empty held.old) calls.now answers.new) }
+    ensures rulings { OnOk result (RuledOnItems (K.machine case.now) number (desk empty held.old) calls.now K.Fault.number answers.new) }
     ensures tickets { OnOk result (SlotsLeft (K.machine case.now) number (desk empty held.old) calls.now held.new) }
     ensures returned { OnOk result (TidySlots held.old calls.now held.new) }
-    ensures stands { IfOk result (λ d. Stands K.machine K.state d (worked (K.machine case.now) number (desk empty held.old) calls.now).plain) }
+    ensures stands { IfOk result (λ d. Stands K.Evidence d (worked (K.machine case.now) number (desk empty held.old) calls.now).plain) }
     ensures case { IfOk result (λ d. d.case ≡ case.now) }
     ensures number { IfOk result (λ d. d.number ≡ number) }
     ensures counts { IfOk result (λ d. CountsLeft (K.machine case.now) number (desk empty held.old) calls.now d.counts) }
@@ -182,6 +193,6 @@ pub fn session<K: Evidence>(
         return Err(checker);
     }
     let mut docket = Docket::new(checker, case, number);
-    work_off(&mut docket, held, calls, answers);
+    work_off(&mut docket, held, calls, answers).unwrap();
     Ok(docket)
 }

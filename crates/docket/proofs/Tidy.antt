@@ -15,7 +15,7 @@ use Rattle.docket.proofs.Settlings.{in_slot_lem, with_ticket_lem}
 module _ {S : Type 0} (m : Machine S) (number : ℕ) (k : ℕ) (h : Held) (free : get_or h k None ≡ None) where
   -- the ticket of the examination that a plain docket opened last
   abbrev latest : Plain → Ticket
-  latest p = record { name = record { docket = number; examination = p.opened } }
+  latest p = record { name = record { docket = number; examination = p.opened }; spent = false }
 
   -- nothing is open and the slots are as they were, or the slot k holds the ticket of the open examination
   record Idle (e : Desk) : Type 0 where

@@ -39,7 +39,7 @@ granted (Withdrawn n) = true
 granted (Refused q) = false
 
 abbrev pub received : Held → ℕ → Reply → Held
-received h k (Opened t) = slice_set h k (Some (record { name = t }))
+received h k (Opened t) = slice_set h k (Some (record { name = t; spent = false }))
 received h k Taken = h
 received h k (Allowed n) = h
 received h k (Unfinished n) = h

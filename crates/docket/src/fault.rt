@@ -80,7 +80,7 @@ impl<F> From<TicketFault> for DocketFault<F> {
     ghost from_gives = { λ t f. f ≡ of_ticket t };
 
     fn from(fault: TicketFault) -> DocketFault<F> {
-        DocketFault::Ticket(fault)
+        Self::Ticket(fault)
     }
 }
 

@@ -80,6 +80,7 @@ impl<K: Evidence> Docket<K> {
     pub fn open(&mut self) -> Result<Ticket, TicketFault>
         ensures heeds { Heeds K.Evidence self.old opens (open_says result) self.new }
         ensures granted { is_ok result ≡ vacant self.old }
+        ensures unspent { IfOk result (λ t. t.spent ≡ false) }
         ensures admits { IfOk result (λ t. admits self.new t.name ≡ true) }
         ensures kept { OnErr result (self.new ≡ self.old) }
     {

@@ -1,6 +1,6 @@
-// Tickets. One is made by `open` and goes back by `settle` or `withdraw`; nothing else makes or takes one, and a program
-// that lets go of one is not built, since a ticket has no `Drop`.
-ghost use Rattle.std.specs.Prelude.{◌≡◌};
+// Tickets. One is made by `open` and goes back by `settle` or `withdraw`; nothing else makes or spends one, and a program
+// that lets go of one that was not spent has no proof, so it is not built.
+ghost use Rattle.std.specs.Prelude.{◌≡◌, true, false};
 
 // What stands on a ticket: the docket's number, and which of its examinations this is, from 1.
 #[derive(Clone, Copy, Debug, PartialEq)]
@@ -12,21 +12,23 @@ pub struct TicketName {
 #[must_use]
 pub struct Ticket {
     name: TicketName,
+    // a flag, and no type without `Drop`: so a ticket that lapses is a fact that is not proved, which must-fail edits can try
+    spent: bool,
 }
 
 impl Drop for Ticket {
     fn drop(self)
-        requires { ⊥ }
+        requires { self.spent ≡ true }
     {
-        let Ticket { name: _ } = self;
+        let Ticket { name: _, spent: _ } = self;
     }
 }
 
 impl Ticket {
     pub(crate) fn new(name: TicketName) -> Ticket
-        ensures made { result ≡ record { name = name } }
+        ensures made { result ≡ record { name = name; spent = false } }
     {
-        Ticket { name }
+        Ticket { name, spent: false }
     }
 
     pub fn name(&self) -> TicketName
@@ -35,8 +37,7 @@ impl Ticket {
         self.name
     }
 
-    // Its end: the docket has it back.
-    pub(crate) fn spend(self) {
-        let Ticket { name: _ } = self;
+    pub(crate) fn spend(mut self) {
+        self.spent = true;
     }
 }

@@ -34,17 +34,6 @@ impl fmt::Display for TooFewAnswers {
 
 impl Error for TooFewAnswers {}
 
-// Puts a ticket into a slot that is empty.
-fn put_into(slot: &mut Option<Ticket>, ticket: Ticket)
-    requires { slot.old ≡ None }
-    ensures { slot.new ≡ Some ticket }
-{
-    match slot.replace(ticket) {
-        None => {}
-        Some(_) => unreachable(),
-    }
-}
-
 // The answer to a ticket that is handed back, which is put into its slot again.
 fn refused<F>(slot: &mut Option<Ticket>, back: HandedBack) -> Answer<F>
     requires { slot.old ≡ None }
@@ -52,7 +41,7 @@ fn refused<F>(slot: &mut Option<Ticket>, back: HandedBack) -> Answer<F>
     ensures again { slot.new ≡ Some back.ticket }
 {
     let HandedBack { fault, ticket } = back;
-    put_into(slot, ticket);
+    *slot = Some(ticket);
     Answer::Refused(fault.into())
 }
 
@@ -69,7 +58,7 @@ fn open_at<K: Evidence>(
     match docket.open() {
         Ok(ticket) => {
             let name = ticket.name();
-            put_into(&mut held[slot], ticket);
+            held[slot] = Some(ticket);
             Some(Answer::Opened(name))
         }
         Err(fault) => Some(Answer::Refused(fault.into())),
@@ -91,6 +80,7 @@ fn offer_at<K: Evidence>(
     }
 }
 
+// Of a slot lent by `get_mut` nothing is known afterwards (tried): so here and below the slot's number is tested.
 #[tactic(auto, using(crate::proofs::Refilling::put_back))]
 fn settle_at<K: Evidence>(
     docket: &mut Docket<K>,
@@ -143,6 +133,7 @@ fn act<K: Evidence>(
     }
 }
 
+// The docket and the slots go side by side: a value that borrows both needs a clause in each method that it still does.
 // Works a list of calls off, in its order, each with the ticket in the slot that it names, and writes the answers to the
 // front of a list. Where there are more calls than places for answers, nothing is done.
 pub fn work_off<K: Evidence>(

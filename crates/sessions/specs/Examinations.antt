@@ -1,10 +1,10 @@
 -- One examination from its opening to its end: items offered one by one, and then settled, or withdrawn at the first that is
 -- refused.
-use Rattle.std.specs.Prelude.{◌≡◌, ◌+◌, true, false, cond, List, take, Ok, Err, Result, ◌==◌}
+use Rattle.std.specs.Prelude.{◌≡◌, ℕ, ◌+◌, true, false, cond, List, take, Ok, Err, Result, ◌==◌}
 use Rattle.records.specs.declared.Item.{Item}
-use Rattle.case.specs.declared.checked.CheckedCase.{CheckedCase}
 use Rattle.machines.specs.Machine.{Machine}
 use Rattle.machines.specs.Outcomes.{Outcome, allowed, unfinished, refused, outcome}
+use Rattle.kinds.specs.declared.Evidence.{Ghosts}
 use Rattle.docket.specs.declared.Docket.{Docket}
 use Rattle.docket.specs.declared.Verdict.{Verdict}
 use Rattle.docket.specs.declared.fault.DocketFault.{DocketFault}
@@ -12,10 +12,10 @@ use Rattle.docket.specs.Faults.{told}
 use Rattle.docket.specs.Plain.{Plain, Reply, Allowed, Unfinished, Refused, own, now_settled, now_withdrawn}
 use Rattle.docket.specs.Standing.{Stands, verdict_says}
 
--- what an examination answers
-abbrev pub examine_says : Result Verdict DocketFault → Reply
-examine_says (Ok v) = verdict_says v
-examine_says (Err f) = Refused (told f)
+-- what an examination answers; F is the kind's reason for refusing an item, which has a number
+abbrev pub examine_says : {F : Type 0} → (F → ℕ) → Result Verdict (DocketFault F) → Reply
+examine_says number (Ok v) = verdict_says v
+examine_says number (Err f) = Refused (told number f)
 
 abbrev pub said : Outcome → Reply
 said (allowed n) = Allowed n
@@ -42,8 +42,8 @@ module _ {S : Type 0} (m : Machine S) (is : List Item) where
 
 -- d became d' and answered a: it keeps its case and number, and whichever plain docket it stood for, it answered what the
 -- items come to, and now stands for that plain docket with one examination more
-pub record Examines {K S : Type 0} (machine : CheckedCase → Machine S) (state : CheckedCase → K → S) (d : Docket K) (is : List Item) (a : Reply) (d' : Docket K) : Type 0 where
+pub record Examines {K F : Type 0} (kind : Ghosts K F) (d : Docket K F) (is : List Item) (a : Reply) (d' : Docket K F) : Type 0 where
   pub case : d'.case ≡ d.case
   pub number : d'.number ≡ d.number
-  pub answers : (p : Plain) → Stands machine state d p → a ≡ examined_reply (machine d.case) is p
-  pub stands : (p : Plain) → Stands machine state d p → Stands machine state d' (examined_plain (machine d.case) is p)
+  pub answers : (p : Plain) → Stands kind d p → a ≡ examined_reply (kind.machine d.case) is p
+  pub stands : (p : Plain) → Stands kind d p → Stands kind d' (examined_plain (kind.machine d.case) is p)

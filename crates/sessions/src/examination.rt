@@ -13,8 +13,8 @@ use records::Item;
 
 // The verdict on these items, or the first refusal: the examination is then withdrawn. A docket that cannot open one is
 // left as it was.
-pub fn examine<K: Evidence>(docket: &mut Docket<K>, items: &[Item]) -> Result<Verdict, DocketFault>
-    ensures examines { Examines K.machine K.state docket.old items.now (examine_says result) docket.new }
+pub fn examine<K: Evidence>(docket: &mut Docket<K>, items: &[Item]) -> Result<Verdict, DocketFault<K::Fault>>
+    ensures examines { Examines K.Evidence docket.old items.now (examine_says K.Fault.number result) docket.new }
     ensures kept { vacant docket.old ≡ false → docket.new ≡ docket.old }
 {
     let ticket = docket.open()?;

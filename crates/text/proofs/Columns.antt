@@ -1,26 +1,30 @@
 -- The fields of a line read from the left, and a row written from the left.
-use Rattle.std.proofs.Common.{◌≡◌, ℕ, ◌+◌, ◌<◌, ◌≤◌, true, cond, List, [], ◌∷◌, ◌++◌, length, set, Some, None, Ok, Err, sym, refl, ap, ◌∙◌, arith, length-append}
+use Rattle.std.proofs.Common.{◌≡◌, ℕ, ◌+◌, ◌<◌, ◌≤◌, true, cond, List, [], ◌∷◌, ◌++◌, length, set, Some, None, Ok, Err, Result, sym, refl, ap, ◌∙◌, arith, length-append}
 use Rattle.std.proofs.lemmas.List.{length_push}
 use Rattle.std.proofs.lemmas.Bool.{cond-true}
 use Rattle.text.specs.Csv.{cr, lf, first_of, rest_of}
 use Rattle.records.specs.Refusals.{Refusal}
 use Rattle.text.specs.Reading.{cell_of, then, cells_of, at_front}
 use Rattle.text.specs.Sheets.{Column, ended, row_text, all_known}
+use Rattle.text.specs.declared.field.Fields.{Fields}
 use Rattle.text.specs.declared.put.Writer.{Writer}
+use Rattle.text.specs.Lines.{to_come, OneRead}
 use Rattle.text.specs.Writing.{placed, HasRoom, Wrote}
 use Rattle.text.proofs.Places.{placed-none, placed-more, placed-front}
 
 -- ── Reading ──
--- the first of the fields ps is read for the column c, and qs are those behind it
-module _ (k : ℕ) (c : Column) (cs : List Column) (ps : List (List ℕ)) (e : Refusal) where
+-- a field is read for the column c, and those behind it for the columns cs
+module _ (c : Column) (cs : List Column) {before after : Fields} where
   -- it is refused
-  pub stops : Err e ≡ cell_of k c (first_of ps) → Err e ≡ cells_of k (c ∷ cs) ps
-  stops h = ap (λ r. then r (λ n. then (cells_of k cs (rest_of ps)) (λ ns. Ok (n ∷ ns)))) h
+  pub stops : OneRead before after → (e : Refusal) → Err e ≡ cell_of before.line c (first_of (to_come before)) → Err e ≡ cells_of before.line (c ∷ cs) (to_come before)
+  stops one e h = ap (λ r. then r (λ n. then (cells_of before.line cs (rest_of (to_come before))) (λ ns. Ok (n ∷ ns)))) h
 
-  -- it is taken, and one behind it is refused
-  pub passes : (qs : List (List ℕ)) (n : ℕ) → qs ≡ rest_of ps → Ok n ≡ cell_of k c (first_of ps) → Err e ≡ cells_of k cs qs → Err e ≡ cells_of k (c ∷ cs) ps
-  passes qs n r h t =
-      ap (λ r. then r (λ ns. Ok (n ∷ ns))) (t ∙ ap (cells_of k cs) r) ∙ ap (λ r. then r (λ n. then (cells_of k cs (rest_of ps)) (λ ns. Ok (n ∷ ns)))) h
+  -- it is taken, and what comes behind it decides
+  pub takes : OneRead before after → (n : ℕ) → Ok n ≡ cell_of before.line c (first_of (to_come before)) → (r : Result (List ℕ) Refusal) → r ≡ cells_of after.line cs (to_come after)
+      → then r (λ ns. Ok (n ∷ ns)) ≡ cells_of before.line (c ∷ cs) (to_come before)
+  takes one n h r t =
+      ap (λ r. then r (λ ns. Ok (n ∷ ns))) (t ∙ (λ i. cells_of (one.line i) cs (one.fields i)))
+      ∙ ap (λ r. then r (λ n. then (cells_of before.line cs (rest_of (to_come before))) (λ ns. Ok (n ∷ ns)))) h
 
 -- ── Writing ──
 pub size-known : (ks : List Column) (ns : List ℕ) (n : ℕ) → all_known ks ns ≡ true → n ≡ length (row_text ks ns) → Some n ≡ cond (all_known ks ns) (Some (length (row_text ks ns))) None

@@ -99,24 +99,24 @@ impl Row for Record {
     }
 
     fn size(&self) -> Option<usize> {
-        if !is_among(u32::from(self.letter), CASE_LETTERS) {
+        if !is_among(self.letter as u32, CASE_LETTERS) {
             return None;
         }
-        let numbers = digits(u64::from(self.thread))
-            + digits(u64::from(self.target))
-            + digits(u64::from(self.value))
-            + digits(u64::from(self.seen))
-            + digits(u64::from(self.turn));
+        let numbers = digits(self.thread as u64)
+            + digits(self.target as u64)
+            + digits(self.value as u64)
+            + digits(self.seen as u64)
+            + digits(self.turn as u64);
         Some(numbers + 8)
     }
 
     fn put(&self, text: &mut Writer<'_>) {
-        text.number_cell(u64::from(self.thread), b',');
+        text.number_cell(self.thread as u64, b',');
         text.letter_cell(self.letter as u8, b',');
-        text.number_cell(u64::from(self.target), b',');
-        text.number_cell(u64::from(self.value), b',');
-        text.number_cell(u64::from(self.seen), b',');
-        text.number_cell(u64::from(self.turn), b'\r');
+        text.number_cell(self.target as u64, b',');
+        text.number_cell(self.value as u64, b',');
+        text.number_cell(self.seen as u64, b',');
+        text.number_cell(self.turn as u64, b'\r');
         text.byte(b'\n');
     }
 }
@@ -158,20 +158,20 @@ impl Row for Item {
     }
 
     fn size(&self) -> Option<usize> {
-        if !is_among(u32::from(self.letter), EVIDENCE_LETTERS) {
+        if !is_among(self.letter as u32, EVIDENCE_LETTERS) {
             return None;
         }
-        let numbers = digits(u64::from(self.thread))
-            + digits(u64::from(self.place))
-            + digits(u64::from(self.count));
+        let numbers = digits(self.thread as u64)
+            + digits(self.place as u64)
+            + digits(self.count as u64);
         Some(numbers + 6)
     }
 
     fn put(&self, text: &mut Writer<'_>) {
         text.letter_cell(self.letter, b',');
-        text.number_cell(u64::from(self.thread), b',');
-        text.number_cell(u64::from(self.place), b',');
-        text.number_cell(u64::from(self.count), b'\r');
+        text.number_cell(self.thread as u64, b',');
+        text.number_cell(self.place as u64, b',');
+        text.number_cell(self.count as u64, b'\r');
         text.byte(b'\n');
     }
 }

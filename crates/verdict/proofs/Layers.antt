@@ -1,5 +1,5 @@
 -- The layers in their order, once both texts are read: the form decides, or the examination.
-use Rattle.std.proofs.Common.{◌≡◌, ℕ, ◌-◌, false, cond, not, List, take, is_some, Some, None, sym, ap, ◌∙◌, subst}
+use Rattle.std.proofs.Common.{◌≡◌, ℕ, ◌-◌, false, cond, not, List, take, is_some, Some, None, refl, sym, ap, ◌∙◌, subst}
 use native.Mathlib.Nat.{sub-zero}
 use Rattle.records.specs.declared.Item.{Item}
 use Rattle.records.specs.declared.Record.{Record}
@@ -59,6 +59,6 @@ module _ (ct et : List ℕ) (k : CheckedCase) (is : List Item) (n : ℕ) (so : L
 
 -- a refusal of the layers below is what is written
 pub refusal-delivers : (ct et : List ℕ) (j : Judged) → is_allowed j ≡ false → j ≡ judged ct et → verdict_text j ≡ converted ct et
-refusal-delivers ct et j no e =
-    sym (ap (λ b. cond b (evidence_text (other_kind (records_in ct) (items_in et))) (verdict_text j)) no)
+refusal-delivers ct et j not_allowed e =
+    sym (ap (λ b. cond b (evidence_text (other_kind (records_in ct) (items_in et))) (verdict_text j)) not_allowed)
     ∙ ap (λ i. cond (is_allowed i) (evidence_text (other_kind (records_in ct) (items_in et))) (verdict_text i)) e

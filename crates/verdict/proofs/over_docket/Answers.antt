@@ -4,4 +4,4 @@ use Rattle.verdict.proofs.over_docket.Goals as goal
 pub returns : goal.returns
 returns g c =
     let new = c.new-docket.ensures in
-    record { value = new-replies g.K.Evidence.machine g.K.Evidence.state _ _ _ _ _ new.case new.stands c.examine.ensures.examines }
+    record { value = new-replies g.K.Evidence _ _ _ _ _ new.case new.stands c.examine.ensures.examines }

@@ -1,14 +1,25 @@
--- One record of the checks of rules 13 and 16: the flags of its location or thread tell whether it breaks the rule, and are kept.
-use Rattle.std.proofs.Common.{◌≡◌, ℕ, ◌+◌, ◌<◌, Bool, true, false, cond, not, ◌&&◌, ◌||◌, eqb, List, get_or, set, sym, refl, ap, ◌∙◌}
+-- One record of the checks of rules 11, 13 and 16: the counts or flags tell whether it breaks the rule, and are kept.
+use Rattle.std.proofs.Common.{◌≡◌, ℕ, ◌+◌, ◌<◌, Bool, true, false, cond, not, ◌&&◌, ◌||◌, eqb, leb, ◌⊎◌, List, get_or, set, sym, inl, inr, refl, ap, ◌∙◌}
 use mathlib.Core.Bool.{and-true}
-use Rattle.std.proofs.lemmas.Bool.{and_left, and_right, eq-eqb, ne_eqb}
+use Rattle.std.proofs.lemmas.Bool.{cases_Bool, or_left, and_left, and_right, eq-eqb, ne_eqb}
 use Rattle.records.specs.declared.Record.{Record}
 use Rattle.records.specs.Letters.{letter, is_plain, is_volatile}
 use Rattle.records.specs.Names.{at}
-use Rattle.form.specs.Rules.{accesses, mixed, of_same_thread, end_of, misframed}
-use Rattle.form.proofs.Tables.{Marks, marks-put, marks-or}
+use Rattle.form.specs.Rules.{before, stray, misplaced, accesses, mixed, of_same_thread, end_of, misframed}
+use Rattle.form.proofs.Layouts.{straight}
+use Rattle.form.proofs.Tables.{Counts, Marks, marks-put, marks-or}
 
 module _ (xs : List Record) (k : ℕ) where
+  -- ── 11: by thread ──
+  pub misplaced_is : (last : ℕ) (counts : List ℕ) → last ≡ before xs k → Counts xs k counts → (stray k (at xs k).thread last || leb 64 (get_or counts (at xs k).thread 0)) ≡ misplaced xs k
+  misplaced_is last counts e n =
+      ap (λ b. stray k (at xs k).thread b || leb 64 (get_or counts (at xs k).thread 0)) e ∙ by (cases_Bool (stray k (at xs k).thread (before xs k)))
+    where
+      by : (stray k (at xs k).thread (before xs k) ≡ true) ⊎ (stray k (at xs k).thread (before xs k) ≡ false)
+          → (stray k (at xs k).thread (before xs k) || leb 64 (get_or counts (at xs k).thread 0)) ≡ misplaced xs k
+      by (inl t) = or_left _ _ t ∙ sym (or_left _ _ t)
+      by (inr f) = ap (λ m. stray k (at xs k).thread (before xs k) || leb 64 m) (n.1 (at xs k).thread (straight k (at xs k).thread (before xs k) f).small)
+
   -- ── 13: by location ──
   module _ (l : (at xs k).target < 64) where
     pub access-or : (sort : ℕ → Bool) (ts : List Bool) → Marks (accesses sort xs) 64 k ts → (b : Bool) → b ≡ sort (at xs k).letter → Marks (accesses sort xs) 64 (k + 1) (set ts (at xs k).target (get_or ts (at xs k).target false || b))

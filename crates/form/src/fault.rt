@@ -1,4 +1,4 @@
-// What the form check finds, one variant a rule, with the index of the record. Its words say what the rule asks.
+// What the form check finds, one variant a rule, with the index of the record. Printed, it says in words what is wrong.
 ghost use Rattle.std.specs.Prelude.{◌≡◌};
 ghost use Rattle.form.specs.Form.{told};
 

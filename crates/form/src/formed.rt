@@ -52,18 +52,24 @@ fn well_formed(r: &Record) -> bool
         && turn_fits(r)
 }
 
+fn first_malformed(records: &[Record]) -> Option<usize>
+    ensures { result ≡ along_list malformed records.now }
+{
+    records.iter().position(|r| !well_formed(r))
+}
+
 impl<'a> WellFormed<'a> {
     // 12
     pub(crate) fn check(grouped: Grouped<'a>) -> Result<WellFormed<'a>, FormFault>
         ensures verdict { refusal_in result ≡ refuse 12 (along_list malformed grouped.entry.records.now) None }
         ensures kept { IfOk result (λ w. w.records.now ≡ grouped.entry.records.now) }
     {
-        match grouped.records.iter().position(|r| !well_formed(r)) {
-            Some(k) => Err(FormFault::Field(k)),
-            None => Ok(WellFormed {
-                records: grouped.records,
-                layout: grouped.layout(),
-            }),
+        if let Some(k) = first_malformed(grouped.records) {
+            return Err(FormFault::Field(k));
         }
+        Ok(WellFormed {
+            records: grouped.records,
+            layout: grouped.layout(),
+        })
     }
 }

@@ -1,5 +1,5 @@
 // 11: records grouped by thread, at most 64 of each, and where each thread then starts.
-ghost use Rattle.std.specs.Prelude.{◌≡◌, ℕ, ◌<◌, length, None, IfOk, slice_index};
+ghost use Rattle.std.specs.Prelude.{◌≡◌, ℕ, ◌<◌, ◌||◌, length, None, IfOk, nat_le, slice_index};
 ghost use Rattle.records.specs.First.{Clear};
 ghost use Rattle.records.specs.Names.{of_thread};
 ghost use Rattle.records.specs.Refusals.{refuse};
@@ -26,6 +26,13 @@ fn stray(k: usize, thread: u8, last: u8) -> bool
     k >= 256 || thread > 7 || thread < last
 }
 
+// Whether a record is stray, or the 65th of its thread.
+fn misplaces(k: usize, thread: u8, last: u8, counts: &[u16; 8]) -> bool
+    ensures { result ≡ (is_stray k thread last || nat_le 64 (slice_index counts.now thread)) }
+{
+    stray(k, thread, last) || counts[thread as usize] >= 64
+}
+
 impl<'a> Grouped<'a> {
     // 11
     pub(crate) fn check(records: &'a [Record]) -> Result<Grouped<'a>, FormFault>
@@ -35,7 +42,7 @@ impl<'a> Grouped<'a> {
         let mut counts = [0u16; 8];
         let mut last = 0;
         for (k, r) in records.iter().enumerate() {
-            if stray(k, r.thread, last) || counts[r.thread as usize] >= 64 {
+            if misplaces(k, r.thread, last, &counts) {
                 return Err(FormFault::Grouping(k));
             }
             counts[r.thread as usize] += 1;

@@ -59,13 +59,12 @@ impl TurnRule for Lives {
         let Some(thread) = subject(r) else {
             return true;
         };
-        match next_life(self.0[thread as usize], r.letter) {
-            Some(state) => {
-                self.0[thread as usize] = state;
-                true
-            }
-            None => false,
-        }
+        let life = &mut self.0[thread as usize];
+        let Some(state) = next_life(*life, r.letter) else {
+            return false;
+        };
+        *life = state;
+        true
     }
 }
 

@@ -54,10 +54,11 @@ impl TurnRule for Holders {
         let Some(m) = monitor(r) else {
             return true;
         };
-        if locks_wrongly(r, self.0[m as usize]) {
+        let holder = &mut self.0[m as usize];
+        if locks_wrongly(r, *holder) {
             return false;
         }
-        self.0[m as usize] = holder_after(r);
+        *holder = holder_after(r);
         true
     }
 }

@@ -66,13 +66,17 @@ impl WellFormed<'_> {
                 .is_some_and(|j| writes_to(&self.records[j], r.target))
     }
 
+    fn first_unknown(&self) -> Option<usize>
+        ensures { result ≡ along_list saw_no_write self.now.records.now }
+    {
+        self.records.iter().position(|r| self.sees_no_write(r))
+    }
+
     // 14
     pub(crate) fn check_reads(&self) -> Result<(), FormFault>
         ensures { refusal_in result ≡ refuse 14 (along_list saw_no_write self.now.records.now) None }
     {
-        self.records
-            .iter()
-            .position(|r| self.sees_no_write(r))
+        self.first_unknown()
             .map_or(Ok(()), |k| Err(FormFault::UnknownWrite(k)))
     }
 

@@ -34,6 +34,7 @@ fn answer(records: &[Record]) -> Result<usize, (u8, usize)> {
 #[cfg(test)]
 mod tests {
     use super::*;
+    use form::fault::FormFault;
 
     const B: Record = Record {
         letter: 'B',
@@ -188,5 +189,15 @@ mod tests {
         assert_eq!(rt; case.find(512), None);
         assert_eq!(rt; case.thread(0).len(), 3);
         assert_eq!(rt; case.thread(9).len(), 0);
+    }
+
+    // what a fault prints
+    #[test]
+    fn words(rt: HostRuntime) {
+        let held = "the monitor is held already, or is unlocked by a thread that does not hold it";
+        let text = format!(in rt.alloc(); "{}", FormFault::Monitor(2)).unwrap_or(String::new(
+            rt.alloc(),
+        ));
+        assert_eq!(rt; text.as_str(), held);
     }
 }

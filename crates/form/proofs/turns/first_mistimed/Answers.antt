@@ -1,6 +1,6 @@
 -- `position` finds the first record that is mistimed.
 use Rattle.std.proofs.Common.{rules, tests, ◌≡◌, ℕ, Bool, ◌&&◌, ◌||◌, ◌<◌, ltb, List, length, get_or, take, refl, ap, ◌∙◌, arith}
-use Rattle.std.specs.List.{enumerate_from, list_any}
+use Rattle.std.specs.List.{position, enumerate_from, list_any}
 use Rattle.std.proofs.lemmas.List.FromFn.{length-enumerate_from, get_or-enumerate_from}
 use Rattle.std.proofs.lemmas.Iterator.{YieldsList-from_slice}
 use Rattle.std.proofs.lemmas.Iterator.Consumers.{YieldsList-at, YieldsList-from_enumerate}
@@ -23,11 +23,13 @@ is_broken xs k n l e =
     ∙ ap (λ m. broken xs n (m, at xs k)) (omega arith)
     ∙ (λ i. is_capital (at xs k).letter && (ltb (e i) (at xs k).turn || some-any (clashes (at xs k)) blank (λ j. clashes (at xs k) (at xs j)) k xs (omega arith) (λ j b. refl) i))
 
+first_broken : (xs : List Record) (n : ℕ) → n ≡ capitals xs → position (broken xs n) (enumerate_from 0 xs) ≡ first (mistimed xs) (length xs)
+first_broken xs n e =
+    first-position (broken xs n) (0, blank) (mistimed xs) (enumerate_from 0 xs) (λ k l. is_broken xs k n (omega (arith, length-enumerate_from 0 xs)) e)
+    ∙ ap (first (mistimed xs)) (length-enumerate_from 0 xs)
+
 pub returns : goal.returns
 returns c =
-    let xs = c.args.records.now in
-    let n = c.count_capitals-capitals.result in
-    position_from_yields_List (broken xs n) _ _ c.position.result c.position.ensures.ran
+    position_from_yields_List (broken c.args.records.now c.count_capitals-capitals.result) _ _ _ c.position.ensures.ran
     (YieldsList-from_enumerate (YieldsList-at c.enumerate.ensures.source (YieldsList-from_slice _ c.iter.ensures.rest)) c.enumerate.ensures.count) (λ x b q k. search (rules, tests))
-    ∙ first-position (broken xs n) (0, blank) (mistimed xs) (enumerate_from 0 xs) (λ k l. is_broken xs k n (omega (arith, length-enumerate_from 0 xs)) c.count_capitals-capitals.ensures)
-    ∙ ap (first (mistimed xs)) (length-enumerate_from 0 xs)
+    ∙ first_broken c.args.records.now c.count_capitals-capitals.result c.count_capitals-capitals.ensures

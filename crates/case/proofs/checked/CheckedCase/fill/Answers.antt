@@ -1,4 +1,4 @@
-use Rattle.std.proofs.Common.{◌≡◌, ◌≤◌, true, not, List, length, is_some, None, sym, ap, ◌∙◌, subst, arith}
+use Rattle.std.proofs.Common.{◌≡◌, ◌≤◌, true, not, List, length, is_some, None, sym, ap, ◌∙◌, subst}
 use Rattle.records.specs.declared.Record.{Record}
 use Rattle.form.specs.Form.{form_refusal, in_form}
 use Rattle.form.specs.Layouts.{starts_of}
@@ -14,9 +14,6 @@ few xs e = (lawful xs (formed xs e)).few
 
 pub padded-requires : goal.padded-requires
 padded-requires c = few c.args.records.now c.in_ok-layout.ensures.verdict
-
-pub overflow_cast-self : goal.overflow_cast-self
-overflow_cast-self c = record { fits = omega (arith, few c.args.records.now c.in_ok-layout.ensures.verdict) }
 
 pub invariant_of-self : goal.invariant_of-self
 invariant_of-self c =

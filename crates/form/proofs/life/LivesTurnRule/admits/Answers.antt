@@ -12,8 +12,8 @@ returns-in_default c = λ xs n is l.
     let p = life-passes xs n r is c.args.self.now.0 l (not_asked (concerns_life r.letter) (subject r) c.in_default.ensures) in
     (p.0, λ _. p.1)
 
-pub returns-in-Some-next_life : goal.returns-in-Some-next_life
-returns-in-Some-next_life c = λ xs n is l.
+pub returns : goal.returns
+returns c = λ xs n is l.
     let r = c.args.r.now in
     let who = asked (concerns_life r.letter) (subject r) c.in-Some.thread c.in-Some.ensures in
     let p = life-next xs n r is c.args.self.now.0 l c.in-Some.thread who.0 who.1 (subst (λ u. u < 8) (sym who.1) (subject-small r (ap not c.requires.1) c.requires.0)) c.in-Some-next_life.state c.in-Some-next_life.ensures in

@@ -5,7 +5,6 @@ use Rattle.std.specs.List.{between}
 use Rattle.std.proofs.lemmas.List.{drop-set-add, take-append-drop}
 use Rattle.std.proofs.lemmas.List.Edits.{length-between, get_or-between}
 use Rattle.std.proofs.lemmas.List.Sums.{sum_by-cons}
-use Rattle.std.proofs.lemmas.Bool.{cond-true, cond-false, eq-eqb, ne_eqb}
 use Rattle.records.specs.declared.Item.{Item}
 use Rattle.machines.proofs.Windows.{window_more, window-less}
 use Rattle.conversions.specs.declared.hosts.Host.{Host}
@@ -31,14 +30,6 @@ stay-within x (h ∷ hs) = go (stay x hs) (eqb x h.location) (stay-within x hs)
     go zero true l = omega arith
     go zero false l = omega arith
     go (suc n) b l = omega arith
-
--- the newest of the hosts is to x or not
-module _ (x : ℕ) (older : List Host) (h : Host) where
-  pub stays_here : h.location ≡ x → stay x (older ++ h ∷ []) ≡ suc (length older)
-  stays_here e = stay_push x older h ∙ cond-true _ _ _ (eq-eqb _ _ (sym e))
-
-  pub stays_older : (h.location ≡ x → ⊥) → stay x (older ++ h ∷ []) ≡ stay x older
-  stays_older ne = stay_push x older h ∙ cond-false _ _ _ (ne_eqb _ _ (λ e. ne (sym e)))
 
 -- ── How many actions wait ──
 pub width-sum : (hs : List Host) → sum (map (λ (h : Host). h.joined + 1) hs) ≡ width hs

@@ -6,7 +6,7 @@ use Rattle.conversions.specs.declared.sheet.Sheet.{Sheet}
 use Rattle.conversions.specs.Hosts.{width}
 use Rattle.conversions.specs.Along.{move_of, passes, moves_before}
 use Rattle.conversions.specs.Sheets.{Adds, Room}
-use Rattle.conversions.proofs.Sheets.{Leads, leads-start, leads-same, leads-room, leads-more}
+use Rattle.conversions.proofs.Sheets.{Leads, leads-same, leads-room, leads-more}
 use Rattle.conversions.proofs.Staying.{passes_push, width-append}
 
 module _ (t place : ℕ) (hs : List Host) (first : Sheet) where
@@ -21,14 +21,6 @@ module _ (t place : ℕ) (hs : List Host) (first : Sheet) where
     pub low : before ≤ place
     pub ahead : before ≡ b + width older
     pub leads : Leads first whole now (passes t b older)
-
-  pub left-all : width hs ≤ place → (older : List Host) → older ≡ hs → Left older place first
-  left-all fits older e =
-      record {
-        low = omega arith;
-        ahead = let w = ap width e in omega arith;
-        leads = leads-same first whole first (ap (passes t b) (sym e)) (leads-start first whole);
-      }
 
   -- the newest of those that are left is passed
   module _ (room : Room whole first) (host : Host) (older rest : List Host) (before : ℕ) (now : Sheet)

@@ -7,6 +7,7 @@ use Rattle.conversions.specs.Fronts.{put}
 use Rattle.conversions.specs.Sheets.{Adds, Room}
 use Rattle.conversions.proofs.Fronts.{put-nil, length-put, put-put}
 
+-- one list and then another
 pub adds_both : (xs ys : List Item) (s t u : Sheet) → Room (xs ++ ys) s → Adds xs s t → Adds ys t u → Adds (xs ++ ys) s u
 adds_both xs ys s t u room f g =
     record {

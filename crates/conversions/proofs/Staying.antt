@@ -2,17 +2,17 @@
 use Rattle.std.proofs.Common.{◌≡◌, ℕ, zero, suc, ◌+◌, ◌-◌, ◌<◌, ◌≤◌, Bool, true, false, cond, eqb, List, [], ◌∷◌, ◌++◌, map, sum, length, get_or, take, drop, set, sym, refl, ap, ◌∙◌, arith}
 use lib.Seq.{take-set-lt}
 use Rattle.std.specs.List.{between}
-use Rattle.std.proofs.lemmas.List.{take_rest, drop-set-add, take-append-drop}
+use Rattle.std.proofs.lemmas.List.{drop-set-add, take-append-drop}
 use Rattle.std.proofs.lemmas.List.Edits.{length-between, get_or-between}
 use Rattle.std.proofs.lemmas.List.Sums.{sum_by-cons}
-use Rattle.std.proofs.lemmas.Bool.{cond-true, cond-false, eq-eqb, ne_eqb}
 use Rattle.records.specs.declared.Item.{Item}
+use Rattle.machines.proofs.Windows.{window_more, window-less}
 use Rattle.conversions.specs.declared.hosts.Host.{Host}
 use Rattle.conversions.specs.Hosts.{new_host, width, behind, stay, raised, joins_at}
 use Rattle.conversions.specs.Along.{unhosted, move_of, passes}
 
 -- ── Where a read stays ──
-stay_push : (x : ℕ) (hs : List Host) (h : Host) → stay x (hs ++ h ∷ []) ≡ cond (eqb x h.location) (suc (length hs)) (stay x hs)
+pub stay_push : (x : ℕ) (hs : List Host) (h : Host) → stay x (hs ++ h ∷ []) ≡ cond (eqb x h.location) (suc (length hs)) (stay x hs)
 stay_push x [] h = refl
 stay_push x (g ∷ hs) h =
     ap (behind (eqb x g.location)) (stay_push x hs h) ∙ go (eqb x h.location)
@@ -31,17 +31,6 @@ stay-within x (h ∷ hs) = go (stay x hs) (eqb x h.location) (stay-within x hs)
     go zero false l = omega arith
     go (suc n) b l = omega arith
 
--- a read stays within the hosts that wait
-pub ruleset staying = (stay-within, length-between)
-
--- the newest of the hosts is to x or not
-module _ (x : ℕ) (older : List Host) (h : Host) where
-  pub stays_here : h.location ≡ x → stay x (older ++ h ∷ []) ≡ suc (length older)
-  stays_here e = stay_push x older h ∙ cond-true _ _ _ (eq-eqb _ _ (sym e))
-
-  pub stays_older : (h.location ≡ x → ⊥) → stay x (older ++ h ∷ []) ≡ stay x older
-  stays_older ne = stay_push x older h ∙ cond-false _ _ _ (ne_eqb _ _ (λ e. ne (sym e)))
-
 -- ── How many actions wait ──
 pub width-sum : (hs : List Host) → sum (map (λ (h : Host). h.joined + 1) hs) ≡ width hs
 width-sum [] = refl
@@ -55,6 +44,12 @@ width-append (h ∷ xs) ys = let a = width-append xs ys in omega arith
 
 pub width-drop : (n : ℕ) (hs : List Host) → width (take n hs) + width (drop n hs) ≡ width hs
 width-drop n hs = sym (width-append (take n hs) (drop n hs)) ∙ ap width (take-append-drop n hs)
+
+pub width-take-le : (n : ℕ) (hs : List Host) → width (take n hs) ≤ width hs
+width-take-le n hs = let w = width-drop n hs in omega arith
+
+pub width-drop-le : (n : ℕ) (hs : List Host) → width (drop n hs) ≤ width hs
+width-drop-le n hs = let w = width-drop n hs in omega arith
 
 width-raised : (n : ℕ) (hs : List Host) (d : Host) → n < length hs → width (set hs n (raised (get_or hs n d))) ≡ suc (width hs)
 width-raised n [] d l = absurd (omega arith)
@@ -86,10 +81,6 @@ window-joins xs i j (suc n) l m =
     ∙ take-set-lt (j - i) (drop i xs) n (raised (get_or xs (i + n) (new_host 0))) (omega arith)
     ∙ ap (λ h. set (between i j xs) n (raised h)) (sym (get_or-between xs i j n (new_host 0) (omega arith)))
 
--- the hosts that it passes, as a part of a slice
-pub passed-are : (ws hs : List Host) (x n : ℕ) → ws ≡ hs → n ≡ stay x ws → take (length ws - n) (drop n ws) ≡ drop (stay x hs) hs
-passed-are ws hs x n e q = let k = q ∙ ap (stay x) e in take_rest ws n ∙ (λ i. drop (k i) (e i))
-
 -- ── The moves past hosts ──
 pub passes_push : (t b : ℕ) (hs : List Host) (h : Host) → passes t b (hs ++ h ∷ []) ≡ move_of t (b + width hs) h.joined ∷ passes t b hs
 passes_push t b [] h = let z : b ≡ b + 0 = omega arith in ap {B = List Item} (λ p. move_of t p h.joined ∷ []) z
@@ -97,3 +88,10 @@ passes_push t b (g ∷ hs) h =
     let e : b + suc g.joined + width hs ≡ b + suc (g.joined + width hs) = omega arith in
     ap {B = List Item} (λ l. l ++ (move_of t b g.joined ∷ [])) (passes_push t (b + suc g.joined) hs h)
     ∙ ap {B = List Item} (λ p. move_of t p h.joined ∷ passes t b (g ∷ hs)) e
+
+-- ── What the check may use at a row's methods ──
+-- a read stays within the hosts that wait, and passes no more than wait
+pub ruleset staying = (stay-within, length-between, width-take-le, width-drop-le)
+
+-- a window moves at either end
+pub ruleset moving = (window_more, window-less, width-append)

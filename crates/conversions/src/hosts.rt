@@ -10,6 +10,7 @@ pub(crate) struct Host {
 }
 
 // How many of these hosts there are up to the newest to a location; 0 where none is to it.
+#[tactic(auto, using(crate::proofs::Staying::stay_push))]
 pub(crate) fn stay_at(hosts: &[Host], location: u8) -> usize
     ensures { result ≡ stay location hosts.now }
 {

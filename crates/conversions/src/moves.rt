@@ -1,4 +1,6 @@
 // The moves of a certificate, thread by thread.
+//
+// A thread's number goes beside its row and not into it: else each method would have to say that the number stays.
 ghost use Rattle.std.specs.Prelude.{◌≡◌, ◌≤◌};
 ghost use Rattle.std.specs.List.{slice_get};
 ghost use Rattle.records.specs.Names.{thread as thread_of};

@@ -1,4 +1,6 @@
 // The order of a certificate: which thread's next action comes, one after the other.
+//
+// `perform` and `drain` are two functions and not one that takes a closure: each says what its own step makes of the rows.
 ghost use Rattle.std.specs.Prelude.{◌≡◌};
 ghost use Rattle.std.specs.List.{slice_get};
 ghost use Rattle.records.specs.Names.{thread as thread_of};
@@ -51,7 +53,10 @@ fn order_of_item(case: &CheckedCase, item: Item, rows: &mut [Row; 8], sheet: &mu
         RunItem::Perform(thread) => (thread, perform(case, thread, rows)),
         RunItem::Drain(thread) => (thread, drain(thread, rows)),
     };
-    sheet.repeat(Item::from(CertificateItem::Come(thread)), count as usize);
+    sheet.repeat(
+        Item::from(CertificateItem::Come(thread)),
+        usize::from(count),
+    );
 }
 
 // What still waits at the end comes last, thread by thread.

@@ -64,6 +64,7 @@ impl Row {
     }
 
     // A plain write is performed, and waits.
+    #[tactic(auto, using(crate::proofs::Staying::moving))]
     fn host(&mut self, location: u8)
         requires { self.old.next < 64 }
         ensures next { self.new.next ≡ suc self.old.next }
@@ -125,6 +126,7 @@ impl Row {
     }
 
     // The oldest host leaves, if there is one. Answers how many actions come now: it and the reads that joined it.
+    #[tactic(auto, using(crate::proofs::Staying::moving))]
     pub(crate) fn leave(&mut self) -> u8
         ensures value { result ≡ leaving (window self.old) }
         ensures after { own_of self.new ≡ drained (own_of self.old) }

@@ -29,6 +29,7 @@ impl<'a> Sheet<'a> {
     }
 
     // Writes one item more.
+    #[tactic(auto, using(crate::proofs::Fronts::put_one))]
     pub(crate) fn push(&mut self, item: Item)
         requires room { Room (item ∷ []) self.old }
         ensures list { Adds (item ∷ []) self.old self.new }

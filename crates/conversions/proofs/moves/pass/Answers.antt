@@ -1,9 +1,6 @@
 use Rattle.std.proofs.Common.{rules}
-use Rattle.conversions.proofs.Passes.{left-all, left-wide, left-room, left_less}
+use Rattle.conversions.proofs.Passes.{left-wide, left-room, left_less}
 use Rattle.conversions.proofs.moves.pass.Goals as goal
-
-pub loop-host-init : goal.loop-host-init
-loop-host-init c = left-all c.args.thread c.args.place c.args.passed.now c.args.sheet.now c.requires.before _ (cc)
 
 pub overflow_sub-before : goal.overflow_sub-before
 overflow_sub-before c =

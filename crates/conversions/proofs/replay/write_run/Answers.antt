@@ -1,4 +1,4 @@
-use Rattle.std.proofs.Common.{arith, rules}
+use Rattle.std.proofs.Common.{arith}
 use Rattle.case.specs.Cases.{threads}
 use Rattle.conversions.proofs.Replaying.{nexts-first, replaying_none, replaying_room, replaying_more, replaying_all, replayed-few, replayed-fits}
 use Rattle.conversions.proofs.replay.write_run.Goals as goal
@@ -26,9 +26,3 @@ overflow_cast-result c =
     let few = replayed-few c.args.case.now c.args.certificate.now c.requires.complete in
     let n = h.upto in
     omega arith
-
-pub returns : goal.returns
-returns c =
-    let h = replaying_all (threads c.args.case.now) c.args.certificate.now c.new-sheet.result _ _ _ _ c.loop-item.invariant c.loop-item-test.false in
-    let n = h.upto in
-    record { list = search rules; count = omega arith }

@@ -1,4 +1,4 @@
-use Rattle.std.proofs.Common.{◌+◌, ap, arith, rules, tests}
+use Rattle.std.proofs.Common.{◌^◌, ◌+◌, ap, arith, rules, tests}
 use Rattle.std.proofs.iter.runs.Made.{chains}
 use Rattle.std.proofs.lemmas.Iterator.{YieldsList-from_slice, YieldsList-from_map}
 use Rattle.std.proofs.lemmas.Iterator.Consumers.{fits_from_yields_list}
@@ -13,7 +13,7 @@ sum-requires-clause-fits c =
     let e = ap width c.waiting.ensures in
     let k = c.args.self.now.counted in
     let n = c.args.self.now.within in
-    fits_from_yields_list c.map.result _
+    fits_from_yields_list c.map.result (2 ^ 64)
     (YieldsList-from_map _ (λ (h : Host). h.joined + 1) (YieldsList-from_slice c.waiting.result.now cc) c.map.ensures.closure (λ x r q k. search (rules, tests)))
     (omega arith)
 

@@ -11,9 +11,9 @@
 // and what follows for them, are in the module work; specs/Promise has the words.
 //
 // For whoever changes it. A refused call returns before anything is written, so that it can promise that the docket is
-// literally as it was; a kind promises the same of its checker. The counts are written as one value, since they balance
-// at every moment. A new call is a new case of `Asked` in specs/Plain, with its reply and its next plain docket. A new
-// refusal is a variant of `TicketFault` and a line of `ticket_told` in specs/Faults.
+// literally as it was; a kind promises the same of its checker. The counts change through one reference to them, since
+// they balance only after its last write. A new call is a new case of `Asked` in specs/Plain, with its reply and its next
+// plain docket. A new refusal is a variant of `TicketFault` and a line of `ticket_told` in specs/Faults.
 #![tactic(auto)]
 
 ghost use Rattle.std.specs.Prelude.{◌≡◌, ◌≤◌, true, false, is_ok, IfOk, IfErr, OnErr};

@@ -80,7 +80,7 @@ fn offer_at<K: Evidence>(
     }
 }
 
-// Of a slot lent by `get_mut` nothing is known afterwards (tried): so here and below the slot's number is tested.
+// Here and below the slot's number is tested, and no `get_mut` taken (tried): it says nothing of the slots afterwards.
 #[tactic(auto, using(crate::proofs::Refilling::put_back))]
 fn settle_at<K: Evidence>(
     docket: &mut Docket<K>,
@@ -133,9 +133,11 @@ fn act<K: Evidence>(
     }
 }
 
-// The docket and the slots go side by side: a value that borrows both needs a clause in each method that it still does.
 // Works a list of calls off, in its order, each with the ticket in the slot that it names, and writes the answers to the
 // front of a list. Where there are more calls than places for answers, nothing is done.
+//
+// Docket and slots stay two arguments: a struct that borrows both would need clauses in each method that it still does.
+// Calls and answers stay two lists: both are the caller's, one to read and one to write, and nothing here allocates.
 pub fn work_off<K: Evidence>(
     docket: &mut Docket<K>,
     held: &mut [Option<Ticket>],
@@ -159,6 +161,7 @@ pub fn work_off<K: Evidence>(
     if calls.len() > answers.len() {
         return Err(TooFewAnswers);
     }
+    // an index, and no `zip` with `iter_mut` (tried): that says nothing of the answers afterwards
     for (i, call) in calls.iter().enumerate() {
         answers[i] = act(docket, held, *call);
     }

@@ -5,6 +5,12 @@ use Rattle.records.specs.Letters.{letter}
 use Rattle.case.specs.declared.checked.CheckedCase.{CheckedCase}
 use Rattle.case.specs.Cases.{records_of}
 use Rattle.machines.specs.Machine.{Machine}
+use Rattle.docket_users.specs.declared.tally.TallyFault.{TallyFault}
+use Rattle.docket_users.specs.declared.tally.TallyFault.TheVariants.{NotOfTally, NoneLeft}
+
+abbrev pub tally_number : TallyFault → ℕ
+tally_number NotOfTally = 20
+tally_number NoneLeft = 21
 
 abbrev pub tally_step : ℕ → ℕ → Item → Result ℕ ℕ
 tally_step n s i = cond (i.letter == (letter "A")) (cond (nat_lt s n) (Ok (s + 1)) (Err 21)) (Err 20)

@@ -11,29 +11,23 @@ ghost use Rattle.docket_users.specs.Worked.{printed, Printed, counts_at_end};
 
 pub mod tally;
 
+use docket::Docket;
 use docket::fault::DocketFault;
-use docket::{Docket, Verdict};
 use kinds::Evidence;
 use records::Item;
 
-// One examination from its opening to its end: the verdict on these items, or the first refusal. A docket that cannot open
-// one is left as it was.
-pub fn examine<K: Evidence>(docket: &mut Docket<K>, items: &[Item]) -> Result<Verdict, DocketFault>
+// Whether an item would be taken as the first: it is offered in an examination of its own, which is withdrawn. A docket that
+// cannot open one is left as it was.
+pub fn try_first<K: Evidence>(
+    docket: &mut Docket<K>,
+    item: Item,
+) -> Result<(), DocketFault<K::Fault>>
     ensures kept { vacant docket.old ≡ false → docket.new ≡ docket.old }
 {
     let ticket = docket.open()?;
-    for item in items {
-        if let Err(fault) = docket.offer(&ticket, *item) {
-            return match docket.withdraw(ticket) {
-                Ok(_) => Err(fault),
-                Err(_) => unreachable(),
-            };
-        }
-    }
-    match docket.settle(ticket) {
-        Ok(verdict) => Ok(verdict),
-        Err(_) => unreachable(),
-    }
+    let offered = docket.offer(&ticket, item);
+    docket.withdraw(ticket).unwrap();
+    offered
 }
 
 // How many calls the example of docs/DOCKET.md has, whose answers and counts are proved to be those printed there.
@@ -48,13 +42,15 @@ pub fn worked_calls() -> usize
 #[cfg(test)]
 mod tests {
     use super::*;
-    use crate::tally::Tally;
+    use crate::tally::{Tally, TallyFault};
     use case::checked::CheckedCase;
+    use docket::Verdict;
     use docket::calls::{Answer, Call};
-    use docket::fault::HandedBack;
+    use docket::fault::{HandedBack, TicketFault};
     use docket::ticket::TicketName;
     use docket::work::session;
     use records::Record;
+    use sessions::examination::examine;
     use std::test::Fail;
 
     const B: Record = Record {
@@ -93,14 +89,16 @@ mod tests {
         assert_eq!(rt; examine(&mut docket, &[A]), Ok(Verdict::Allowed(1)));
         assert_eq!(rt; examine(&mut docket, &[]), Ok(Verdict::Unfinished(0)));
         let foreign = DocketFault::ItemRefused {
-            number: 20,
+            fault: TallyFault::NotOfTally,
             taken: 0,
         };
+        assert_eq!(rt; foreign.number(), 20);
         assert_eq!(rt; examine(&mut docket, &[D]), Err(foreign));
         let one_more = DocketFault::ItemRefused {
-            number: 21,
+            fault: TallyFault::NoneLeft,
             taken: 1,
         };
+        assert_eq!(rt; one_more.number(), 21);
         assert_eq!(rt; examine(&mut docket, &[A, A]), Err(one_more));
         let counts = docket.counts();
         assert_eq!(rt;
@@ -135,7 +133,7 @@ mod tests {
                 examination: 1,
             }
         );
-        assert_eq!(rt; second, DocketFault::StillOpen);
+        assert_eq!(rt; second, TicketFault::StillOpen);
         assert_eq!(rt; items, 0);
         Ok(())
     }
@@ -173,7 +171,10 @@ mod tests {
             examination: 1,
         };
         assert_eq!(rt; answers[0], Some(Answer::Opened(name)));
-        assert_eq!(rt; answers[1], Some(Answer::Refused(DocketFault::StillOpen)));
+        assert_eq!(rt;
+            answers[1],
+            Some(Answer::Refused(TicketFault::StillOpen.into()))
+        );
         assert_eq!(rt; answers[2], None);
         assert_eq!(rt; answers[3], None);
         assert_eq!(rt; answers[4], Some(Answer::Withdrawn(0)));
@@ -187,14 +188,14 @@ mod tests {
         let mut docket8 = docket(8);
         let ticket = docket8.open()?;
         let offered = docket7.offer(&ticket, A);
-        let fault = match docket7.settle(ticket) {
+        let fault: DocketFault<TallyFault> = match docket7.settle(ticket) {
             Ok(_) => return Err(Fail::new("settled")),
             Err(HandedBack { fault, ticket }) => match docket8.settle(ticket) {
-                Ok(_) => fault,
+                Ok(_) => fault.into(),
                 Err(_) => unreachable(),
             },
         };
-        assert_eq!(rt; offered, Err(DocketFault::NotThisTicket));
+        assert_eq!(rt; offered, Err(TicketFault::NotThisTicket.into()));
         assert_eq!(rt; fault.number(), 42);
         assert_eq!(rt; fault.place(), 0);
         Ok(())

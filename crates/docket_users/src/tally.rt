@@ -1,6 +1,6 @@
 // The smallest kind that is of any use: an item A for each record of the case. It allows every case.
 ghost use Rattle.std.specs.Prelude.{◌≡◌, ℕ, ◌+◌, ◌-◌, length, replicate};
-ghost use Rattle.docket_users.specs.Tallies.{tally, tally_step};
+ghost use Rattle.docket_users.specs.Tallies.{tally, tally_number, tally_step};
 ghost use Rattle.std.proofs.Common.{arith, eq-eqb, rules};
 ghost use Rattle.case.specs.Cases.{records_of};
 ghost use Rattle.docket_users.specs.TallyEvidenceLemmas.{item_a, all-taken, falls, few};
@@ -8,6 +8,7 @@ ghost use Rattle.machines.proofs.Feeds.{bounded};
 
 use case::checked::CheckedCase;
 use kinds::Evidence;
+use machines::faults::ItemFault;
 use records::Item;
 
 #[derive(Drop)]
@@ -15,7 +16,28 @@ pub struct Tally {
     pub count: usize,
 }
 
+#[derive(Clone, Copy, Debug, PartialEq)]
+pub enum TallyFault {
+    // a letter that is not A
+    NotOfTally,
+    // there is an item for each record
+    NoneLeft,
+}
+
+impl ItemFault for TallyFault {
+    ghost number = { tally_number };
+
+    fn number(&self) -> u8 {
+        match self {
+            TallyFault::NotOfTally => 20,
+            TallyFault::NoneLeft => 21,
+        }
+    }
+}
+
 impl Evidence for Tally {
+    type Fault = TallyFault;
+
     ghost State = { ℕ };
 
     ghost state = { λ _ t. t.count };
@@ -38,12 +60,12 @@ impl Evidence for Tally {
         self.count = 0;
     }
 
-    fn put(&mut self, case: &CheckedCase, item: Item) -> Result<(), u8> {
+    fn put(&mut self, case: &CheckedCase, item: Item) -> Result<(), TallyFault> {
         if item.letter != b'A' {
-            return Err(20);
+            return Err(TallyFault::NotOfTally);
         }
         if self.count >= case.records().len() {
-            return Err(21);
+            return Err(TallyFault::NoneLeft);
         }
         self.count += 1;
         Ok(())

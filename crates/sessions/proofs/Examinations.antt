@@ -2,8 +2,7 @@
 use Rattle.std.proofs.Common.{◌≡◌, ℕ, ◌<◌, Bool, true, false, cond, eqb, List, [], ◌∷◌, ◌++◌, length, get_or, take, None, Ok, Err, Result, sym, refl, ap, ◌∙◌, subst, arith, length-take-le, take_all}
 use Rattle.records.specs.declared.Item.{Item}
 use Rattle.records.specs.Refusals.{Refusal}
-use Rattle.case.specs.declared.checked.CheckedCase.{CheckedCase}
-use Rattle.machines.specs.Machine.{Machine, reached, completes, answer}
+use Rattle.machines.specs.Machine.{reached, completes, answer}
 use Rattle.machines.specs.Outcomes.{refused, outcome_of, outcome}
 use Rattle.machines.proofs.Examining.{examining_taken, outcome-refused, outcome-all}
 use Rattle.kinds.specs.declared.Evidence.{Ghosts}

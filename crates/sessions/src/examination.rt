@@ -13,21 +13,19 @@ use records::Item;
 
 // The verdict on these items, or the first refusal: the examination is then withdrawn. A docket that cannot open one is
 // left as it was.
-pub fn examine<K: Evidence>(docket: &mut Docket<K>, items: &[Item]) -> Result<Verdict, DocketFault<K::Fault>>
+pub fn examine<K: Evidence>(
+    docket: &mut Docket<K>,
+    items: &[Item],
+) -> Result<Verdict, DocketFault<K::Fault>>
     ensures examines { Examines K.Evidence docket.old items.now (examine_says K.Fault.number result) docket.new }
     ensures kept { vacant docket.old ≡ false → docket.new ≡ docket.old }
 {
     let ticket = docket.open()?;
     for item in items {
         if let Err(fault) = docket.offer(&ticket, *item) {
-            return match docket.withdraw(ticket) {
-                Ok(_) => Err(fault),
-                Err(_) => unreachable(),
-            };
+            docket.withdraw(ticket).unwrap();
+            return Err(fault);
         }
     }
-    match docket.settle(ticket) {
-        Ok(verdict) => Ok(verdict),
-        Err(_) => unreachable(),
-    }
+    Ok(docket.settle(ticket).unwrap())
 }

@@ -56,24 +56,7 @@ abbrev pub asked : (ℕ → Action) → List ℕ → ℕ → ℕ → ℕ → Res
 asked f places w y k = answer (carries w y (length places - 1 - (k + 1)) (map f (drop (k + 1) places)))
 
 module _ (f : ℕ → Action) (places : List ℕ) (long : 2 ≤ length places) where
-  first_is : (c : ℕ) → move_at 0 c (map f places) ≡ move_at 0 c (f (get_or places 0 0) ∷ map f (drop 1 places))
-  first_is c = ap (λ ps. move_at 0 c (map f ps)) (drop_more places 0 0 (omega arith))
-
-  pub asked_no_write : (a : Action) → a ≡ f (get_or places 0 0) → ((w y : ℕ) → a ≡ Write w y → ⊥) → Err 33 ≡ answer (move_at 0 (length places - 2) (map f places))
-  asked_no_write a e ne = by a ne ∙ sym (ap answer (first_is (length places - 2) ∙ ap (λ b. move_at 0 (length places - 2) (b ∷ map f (drop 1 places))) (sym e)))
-    where
-      by : (a : Action) → ((w y : ℕ) → a ≡ Write w y → ⊥) → Err 33 ≡ answer (move_at 0 (length places - 2) (a ∷ map f (drop 1 places)))
-      by (Write w y) ne = absurd (ne w y refl)
-      by (Read n x s) ne = refl
-      by (Sync n k o) ne = refl
-
   module _ (w y : ℕ) where
-    pub asked-none : Write w y ≡ f (get_or places 0 0) → asked f places w y 0 ≡ answer (move_at 0 (length places - 2) (map f places))
-    asked-none e =
-        let n : length places - 1 - (0 + 1) ≡ length places - 2 = omega arith in
-        ap (λ k. answer (carries w y k (map f (drop 1 places)))) n ∙ sym (answer-passed w y (carries w y (length places - 2) (map f (drop 1 places))))
-        ∙ sym (ap answer (first_is (length places - 2) ∙ ap (λ b. move_at 0 (length places - 2) (b ∷ map f (drop 1 places))) (sym e)))
-
     -- the action a at k of the part behind the write and before the last
     module _ (k : ℕ) (a : Action) (in' : k < length (take (length places - 1 - 1) (drop 1 places))) (is : a ≡ f (get_or (take (length places - 1 - 1) (drop 1 places)) k 0)) where
       asked-next : asked f places w y k ≡ answer (need (saw w y a) 34 (behind a (carries w y (length places - 1 - (k + 1 + 1)) (map f (drop (k + 1 + 1) places)))))
@@ -90,19 +73,6 @@ module _ (f : ℕ → Action) (places : List ℕ) (long : 2 ≤ length places) w
 
       pub asked_not_carried : false ≡ saw w y a → Err 34 ≡ asked f places w y k
       asked_not_carried e = sym (asked-next ∙ ap answer (need_fails (saw w y a) 34 _ (sym e)))
-
-    -- the last
-    pub asked-all : (k : ℕ) (a : Action) (b : Bool) → k ≤ length (take (length places - 1 - 1) (drop 1 places)) → length (take (length places - 1 - 1) (drop 1 places)) ≤ k
-        → a ≡ f (get_or places (length places - 1) 0) → b ≡ reads_other y a → answer (need b 35 (Ok (tt {0}))) ≡ asked f places w y k
-    asked-all k a b m l e q =
-        let m' = simp (length-take, length-drop) at m in
-        let l' = simp (length-take, length-drop) at l in
-        let n : length places - 1 - (k + 1) ≡ 0 = omega arith in
-        let z : k + 1 ≡ length places - 1 = omega arith in
-        ap (λ d. answer (need d 35 (Ok (tt {0})))) q ∙ answer-need (reads_other y a) 35 (Ok (tt {0})) (Ok (taken a (map f (drop (length places - 1 + 1) places)))) refl
-        ∙ sym (ap answer (carries-last w y a (map f (drop (length places - 1 + 1) places))))
-        ∙ ap (λ b. answer (carries w y 0 (b ∷ map f (drop (length places - 1 + 1) places)))) e
-        ∙ sym (λ i. answer (carries w y (n i) (map f ((ap (λ j. drop j places) z ∙ drop_more places (length places - 1) 0 (omega arith)) i))))
 
 -- ── What is made ──
 -- the read at c is taken out of the list

@@ -1,6 +1,6 @@
 -- What a change of one row, of memory or of the turns makes of the state that the run checker's table stands for.
 use Rattle.std.proofs.Common.{◌≡◌, ℕ, suc, ◌+◌, ◌<◌, ◌≤◌, Bool, true, false, eqb, List, [], ◌∷◌, ◌++◌, map, length, get_or, drop, set, is_some, Some, None, Ok, Err, Result, sym, refl, ap, ◌∙◌, arith}
-use Rattle.std.specs.List.{slice_get}
+use Rattle.std.specs.List.{slice_get, between}
 use Rattle.std.proofs.lemmas.List.{map-set, length-map, get_or-map, get_or_past, map_push, drop-drop, drop_all, set-get_or}
 use Rattle.std.proofs.lemmas.Bool.{eq-eqb, ne_eqb, false≢true}
 use Rattle.records.specs.declared.action.Action.{Action}
@@ -15,7 +15,9 @@ use Rattle.machines.specs.declared.rows.Run.{Run}
 use Rattle.machines.specs.Faults.{run_number, run_fault}
 use Rattle.machines.specs.Machine.{moved}
 use Rattle.machines.specs.Memory.{upd, held, stored, in_step}
-use Rattle.machines.specs.Rows.{window, waits_of, next_of, window_of, run_state, oldest, younger}
+use Rattle.machines.specs.Rows.{window, waits_of, next_of, window_of, run_state}
+use Rattle.machines.specs.Windows.{oldest, younger}
+use Rattle.machines.specs.Windows.{oldest, younger}
 use Rattle.machines.specs.Run.{RunState, waits, isNil, sees, perform}
 use Rattle.machines.proofs.Steps.{need_fails, need-holds, comes_in_step, out_of_step}
 use Rattle.machines.proofs.Tables.{table-set, upd_still}
@@ -71,17 +73,17 @@ module _ (c : Case) (m : Run) (t : ℕ) (h : t < length m.rows) (d : Row) where
   abbrev row : Row
   row = get_or m.rows t d
 
-  pub next_is : next_of m.rows t ≡ row.next
-  next_is = get_or-map (λ r. r.next) m.rows t d 0 h
+  pub next_is : next_of m.rows t ≡ row.window.next
+  next_is = get_or-map (λ r. r.window.next) m.rows t d 0 h
 
-  pub rest_is : s.rest t ≡ drop row.next (thread c t)
+  pub rest_is : s.rest t ≡ drop row.window.next (thread c t)
   rest_is = ap (λ n. drop n (thread c t)) next_is
 
-  pub rest-none : None ≡ slice_get (thread c t) row.next → s.rest t ≡ []
-  rest-none e = rest_is ∙ drop-none (thread c t) row.next (sym e)
+  pub rest-none : None ≡ slice_get (thread c t) row.window.next → s.rest t ≡ []
+  rest-none e = rest_is ∙ drop-none (thread c t) row.window.next (sym e)
 
-  pub rest_some : (b a : Action) → Some b ≡ slice_get (thread c t) row.next → b ≡ a → s.rest t ≡ a ∷ drop (row.next + 1) (thread c t)
-  rest_some b a e q = rest_is ∙ drop-some (thread c t) row.next b (sym e) ∙ ap (λ x. x ∷ drop (row.next + 1) (thread c t)) q
+  pub rest_some : (b a : Action) → Some b ≡ slice_get (thread c t) row.window.next → b ≡ a → s.rest t ≡ a ∷ drop (row.window.next + 1) (thread c t)
+  rest_some b a e q = rest_is ∙ drop-some (thread c t) row.window.next b (sym e) ∙ ap (λ x. x ∷ drop (row.window.next + 1) (thread c t)) q
 
   pub buffer_is : s.buffer t ≡ map (waits_of t) (window row)
   buffer_is = ap (map (waits_of t)) (get_or-map window m.rows t d [] h)
@@ -89,10 +91,10 @@ module _ (c : Case) (m : Run) (t : ℕ) (h : t < length m.rows) (d : Row) where
   pub nil_is : (ws : List PendingWrite) → ws ≡ window row → (b : Bool) → b ≡ eqb (length ws) 0 → isNil (s.buffer t) ≡ b
   nil_is ws e b q = ap isNil buffer_is ∙ is_nil-map (waits_of t) (window row) ∙ ap (λ l. eqb (length l) 0) (sym e) ∙ sym q
 
-  rest-set : (r : Row) → (λ u. drop (next_of (set m.rows t r) u) (thread c u)) ≡ upd s.rest t (drop r.next (thread c t))
+  rest-set : (r : Row) → (λ u. drop (next_of (set m.rows t r) u) (thread c u)) ≡ upd s.rest t (drop r.window.next (thread c t))
   rest-set r =
-      (λ i u. drop (get_or (map-set (λ (x : Row). x.next) m.rows t r i) u 0) (thread c u))
-      ∙ table-set (λ u n. drop n (thread c u)) (λ _. 0) (map (λ x. x.next) m.rows) t r.next (omega (arith, length-map m.rows (λ (x : Row). x.next)))
+      (λ i u. drop (get_or (map-set (λ (x : Row). x.window.next) m.rows t r i) u 0) (thread c u))
+      ∙ table-set (λ u n. drop n (thread c u)) (λ _. 0) (map (λ x. x.window.next) m.rows) t r.window.next (omega (arith, length-map m.rows (λ (x : Row). x.window.next)))
 
   buffer-set : (r : Row) → (λ u. map (waits_of u) (window_of (set m.rows t r) u)) ≡ upd s.buffer t (map (waits_of t) (window r))
   buffer-set r =
@@ -107,16 +109,16 @@ module _ (c : Case) (m : Run) (t : ℕ) (h : t < length m.rows) (d : Row) where
   stays r e by k o n q = ap (run_state c) (unchanged r e by k) ∙ sym (ap (moved s) q)
 
   -- the next action a is performed: the row is r now, and rs is left
-  module _ (r : Row) (next : r.next ≡ row.next + 1) (a : Action) (rs : List Action) (left : s.rest t ≡ a ∷ rs) where
+  module _ (r : Row) (next : r.window.next ≡ row.window.next + 1) (a : Action) (rs : List Action) (left : s.rest t ≡ a ∷ rs) where
     rest-less : (λ u. drop (next_of (set m.rows t r) u) (thread c u)) ≡ upd s.rest t rs
     rest-less =
-        let n : r.next ≡ next_of m.rows t + 1 = next ∙ ap (λ k. k + 1) (sym next_is) in
+        let n : r.window.next ≡ next_of m.rows t + 1 = next ∙ ap (λ k. k + 1) (sym next_is) in
         rest-set r ∙ ap (upd s.rest t) (ap (λ k. drop k (thread c t)) n ∙ sym (drop-drop 1 (next_of m.rows t) (thread c t)) ∙ ap (drop 1) left)
 
-    pub passed : window r ≡ window row → (by : Memory) (memory : ℕ → ℕ) (k : ℕ) → held by.writes ≡ memory → by.turns ≡ k
+    pub passed : r.window.from ≡ row.window.from → r.window.upto ≡ row.window.upto → r.writes ≡ row.writes → (by : Memory) (memory : ℕ → ℕ) (k : ℕ) → held by.writes ≡ memory → by.turns ≡ k
         → run_state c (record { rows = set m.rows t r; memory = by }) ≡ goes t s rs memory k
-    passed e by memory k h q =
-        let b = buffer-set r ∙ upd_still s.buffer t (map (waits_of t) (window r)) (ap (map (waits_of t)) e ∙ sym buffer_is) in
+    passed from upto writes by memory k h q =
+        let b = buffer-set r ∙ upd_still s.buffer t (map (waits_of t) (window r)) ((λ i. map (waits_of t) (between (from i) (upto i) (writes i))) ∙ sym buffer_is) in
         (λ i. record { rest = rest-less i; buffer = b i; memory = h i; turns = q i })
 
     pub joined : (w : PendingWrite) (n : ℕ) → n ≡ named t w.place → window r ≡ window row ++ (w ∷ [])
@@ -133,10 +135,10 @@ module _ (c : Case) (m : Run) (t : ℕ) (h : t < length m.rows) (d : Row) where
     pub front : s.buffer t ≡ waits n w.location ∷ map (waits_of t) (younger (window row))
     front = buffer_is ∙ ap (map (waits_of t)) (oldest-some (window row) w old) ∙ ap (λ k. waits k w.location ∷ map (waits_of t) (younger (window row))) (sym is)
 
-    pub left : (r : Row) → r.next ≡ row.next → window r ≡ younger (window row) → (by : Memory) → held by.writes ≡ upd s.memory w.location n → by.turns ≡ s.turns
+    pub left : (r : Row) → r.window.next ≡ row.window.next → window r ≡ younger (window row) → (by : Memory) → held by.writes ≡ upd s.memory w.location n → by.turns ≡ s.turns
         → run_state c (record { rows = set m.rows t r; memory = by })
         ≡ record { rest = s.rest; buffer = upd s.buffer t (map (waits_of t) (younger (window row))); memory = upd s.memory w.location n; turns = s.turns }
     left r next e by u k =
-        let q = rest-set r ∙ upd_still s.rest t (drop r.next (thread c t)) (ap (λ k. drop k (thread c t)) (next ∙ sym next_is)) in
+        let q = rest-set r ∙ upd_still s.rest t (drop r.window.next (thread c t)) (ap (λ k. drop k (thread c t)) (next ∙ sym next_is)) in
         let b = buffer-set r ∙ ap (λ ws. upd s.buffer t (map (waits_of t) ws)) e in
         (λ i. record { rest = q i; buffer = b i; memory = u i; turns = k i })

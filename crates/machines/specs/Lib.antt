@@ -5,6 +5,7 @@ pub mod Items
 pub mod Encoded
 pub mod Faults
 pub mod Run
+pub mod Windows
 pub mod Rows
 pub mod Certificate
 pub mod Lists

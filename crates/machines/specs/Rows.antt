@@ -1,24 +1,24 @@
 -- What the run checker's table stands for, for a case.
 use Rattle.std.specs.Prelude.{ℕ, cond, List, [], ◌∷◌, map, drop, Some, None, Option, ◌==◌, slice_index, slice_index_or}
-use Rattle.std.specs.List.{between}
 use Rattle.std.specs.Option.{option_or}
 use Rattle.records.specs.Names.{Case, thread, named}
 use Rattle.machines.specs.declared.rows.PendingWrite.{PendingWrite}
 use Rattle.machines.specs.declared.rows.Row.{Row}
 use Rattle.machines.specs.declared.rows.Run.{Run}
 use Rattle.machines.specs.Memory.{held}
+use Rattle.machines.specs.Windows.{waiting}
 use Rattle.machines.specs.Run.{Waiting, waits, RunState}
 
 -- the waiting writes of a row, oldest first
 abbrev pub window : Row → List PendingWrite
-window r = between r.from r.upto r.writes
+window r = waiting r.window r.writes
 
 abbrev pub waits_of : ℕ → PendingWrite → Waiting
 waits_of t w = waits (named t w.place) w.location
 
 -- of the row of thread t
 abbrev pub next_of : List Row → ℕ → ℕ
-next_of rows t = slice_index (map (λ r. r.next) rows) t
+next_of rows t = slice_index (map (λ r. r.window.next) rows) t
 
 abbrev pub window_of : List Row → ℕ → List PendingWrite
 window_of rows t = slice_index_or (map window rows) t []
@@ -40,12 +40,3 @@ fits x w = cond (x == w.location) (Some w.place) None
 abbrev pub newest_of : ℕ → List PendingWrite → Option ℕ
 newest_of x [] = None
 newest_of x (w ∷ ws) = option_or (newest_of x ws) (fits x w)
-
--- the oldest, and the others
-abbrev pub oldest : List PendingWrite → Option PendingWrite
-oldest [] = None
-oldest (w ∷ ws) = Some w
-
-abbrev pub younger : List PendingWrite → List PendingWrite
-younger [] = []
-younger (w ∷ ws) = ws

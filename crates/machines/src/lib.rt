@@ -13,3 +13,4 @@ pub mod lists;
 pub mod memory;
 pub mod rows;
 pub mod run;
+pub mod window;

@@ -1,10 +1,21 @@
-// A thread's row of the run checker: its next place, and its waiting writes as a window of a table.
-//
-// A write that joins goes to the window's end and one that drains leaves its front, so that nothing is ever shifted: a
-// thread has at most 64 actions, and each of them joins at most once after a begin.
-ghost use Rattle.std.specs.Prelude.{◌<◌, ◌≤◌};
+// A thread's row of the run checker: its waiting writes as a window of a table. Any table of 64 can have such a window.
+ghost use Rattle.std.specs.Prelude.{◌≡◌, ◌<◌, ◌≤◌, length};
 
 use crate::memory::Memory;
+
+// How far a thread is, and which part of its table of 64 is in use.
+//
+// What joins goes to the window's end and what drains leaves its front, so that nothing is ever shifted: a thread has at
+// most 64 actions, and each of them joins at most once after a begin.
+#[derive(Clone, Copy)]
+pub struct Window {
+    pub next: u8,
+    pub from: u8,
+    pub upto: u8,
+    ghost ordered: { from ≤ upto },
+    ghost behind: { upto ≤ next },
+    ghost within: { next ≤ 64 },
+}
 
 // A plain write that has not drained yet, by its place in its thread.
 #[derive(Clone, Copy)]
@@ -16,13 +27,8 @@ pub struct PendingWrite {
 
 #[derive(Clone, Copy)]
 pub struct Row {
-    pub(crate) next: u8,
-    pub(crate) from: u8,
-    pub(crate) upto: u8,
+    pub(crate) window: Window,
     pub(crate) writes: [PendingWrite; 64],
-    ghost ordered: { from ≤ upto },
-    ghost behind: { upto ≤ next },
-    ghost within: { next ≤ 64 },
 }
 
 // The store-buffer machine of eight threads: their rows, and memory.

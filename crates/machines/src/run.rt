@@ -1,19 +1,19 @@
 // The run checker: the store-buffer machine, one item at a time.
 //
 // Rows are indexed behind a test of the thread: once a borrow by `get_mut` is over, a proof knows nothing of the rows.
-ghost use Rattle.std.specs.Prelude.{◌≡◌, ◌+◌, ◌<◌, map, [], ◌∷◌, ◌++◌, IfNone, OnErr};
+ghost use Rattle.std.specs.Prelude.{◌≡◌, ◌<◌, map, [], OnErr};
 ghost use Rattle.records.specs.Names.{Case};
 ghost use Rattle.case.specs.Cases.{threads};
 ghost use Rattle.machines.specs.Faults.{told, run_number};
 ghost use Rattle.machines.specs.Machine.{answer, moved};
 ghost use Rattle.machines.specs.Memory.{held};
-ghost use Rattle.machines.specs.Rows.{window, waits_of, run_state, newest_of, oldest, younger};
+ghost use Rattle.machines.specs.Rows.{window, waits_of, run_state, newest_of};
 ghost use Rattle.machines.specs.Run.{fresh_run, run_step, perform as performed, drain as drained, sees as seen, run_machine};
 
 use crate::faults::RunFault;
 use crate::items::RunItem;
 use crate::memory::Memory;
-use crate::rows::{PendingWrite, Row, Run};
+use crate::rows::{PendingWrite, Row, Run, Window};
 use case::checked::CheckedCase;
 use records::Item;
 use records::action::Action;
@@ -33,13 +33,11 @@ pub fn newest(waiting: &[PendingWrite], location: u8) -> Option<u8>
 impl Row {
     // Nothing performed, nothing waiting.
     fn fresh() -> Row
-        ensures next { result.next ≡ 0 }
+        ensures next { result.window.next ≡ 0 }
         ensures waiting { window result ≡ [] }
     {
         Row {
-            next: 0,
-            from: 0,
-            upto: 0,
+            window: Window::fresh(),
             writes: [PendingWrite {
                 place: 0,
                 location: 0,
@@ -50,7 +48,7 @@ impl Row {
     fn waiting(&self) -> &[PendingWrite]
         ensures { result.now ≡ window self.now }
     {
-        &self.writes[self.from as usize..self.upto as usize]
+        self.window.waiting(&self.writes)
     }
 
     // What a plain read of a location sees: the newest waiting write to it, or what memory holds.
@@ -62,41 +60,6 @@ impl Row {
             Some(place) => named(thread, place),
             None => memory.held(location),
         }
-    }
-
-    // The next action is performed, and nothing joins.
-    fn pass(&mut self)
-        requires { self.old.next < 64 }
-        ensures next { self.new.next ≡ self.old.next + 1 }
-        ensures waiting { window self.new ≡ window self.old }
-    {
-        self.next += 1;
-    }
-
-    // The next action is performed, a plain write, which joins the waiting ones.
-    fn join(&mut self, write: PendingWrite)
-        requires { self.old.next < 64 }
-        ensures next { self.new.next ≡ self.old.next + 1 }
-        ensures waiting { window self.new ≡ window self.old ++ (write ∷ []) }
-    {
-        self.writes[self.upto as usize] = write;
-        self.next += 1;
-        self.upto += 1;
-    }
-
-    // The oldest waiting write leaves; where none waits the row stays as it is.
-    fn leave(&mut self) -> Option<PendingWrite>
-        ensures value { result ≡ oldest (window self.old) }
-        ensures next { self.new.next ≡ self.old.next }
-        ensures waiting { window self.new ≡ younger (window self.old) }
-        ensures kept { IfNone result (self.new ≡ self.old) }
-    {
-        if self.from == self.upto {
-            return None;
-        }
-        let write = self.writes[self.from as usize];
-        self.from += 1;
-        Some(write)
     }
 }
 
@@ -121,22 +84,24 @@ impl Run {
             return Err(RunFault::NoAction);
         }
         let row = &mut self.rows[thread as usize];
-        let place = row.next;
+        let place = row.window.next;
         let action = case.action(thread, place).ok_or(RunFault::NoAction)?;
         match action {
             Action::Read { location, seen, .. } => {
                 if row.sees(thread, location, &self.memory) != seen {
                     return Err(RunFault::SawAnother);
                 }
-                row.pass();
+                row.window.pass();
             }
-            Action::Write { location, .. } => row.join(PendingWrite { place, location }),
+            Action::Write { location, .. } => row
+                .window
+                .join(&mut row.writes, PendingWrite { place, location }),
             Action::Sync { name, turn, op } => {
                 if !row.waiting().is_empty() {
                     return Err(RunFault::WritesWait);
                 }
                 self.memory.synchronize(name, turn, op)?;
-                row.pass();
+                row.window.pass();
             }
         }
         Ok(())
@@ -152,7 +117,7 @@ impl Run {
             return Err(RunFault::NothingWaits);
         }
         let row = &mut self.rows[thread as usize];
-        let write = row.leave().ok_or(RunFault::NothingWaits)?;
+        let write = row.window.leave(&row.writes).ok_or(RunFault::NothingWaits)?;
         self.memory
             .store(write.location, named(thread, write.place));
         Ok(())
@@ -182,6 +147,6 @@ impl Run {
         ensures { result ≡ (run_machine (threads case.now)).complete (run_state (threads case.now) self.now) }
     {
         let mut rows = self.rows.iter().zip(0..8u8);
-        rows.all(|(row, thread)| row.next as usize >= case.thread(thread).len())
+        rows.all(|(row, thread)| row.window.next as usize >= case.thread(thread).len())
     }
 }

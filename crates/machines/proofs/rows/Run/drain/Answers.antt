@@ -1,7 +1,8 @@
 use Rattle.std.proofs.Common.{◌≡◌, get_or, Some, sym, ap, ◌∙◌, arith}
 use Rattle.std.specs.Result.{result_ok}
 use Rattle.machines.specs.Machine.{moved}
-use Rattle.machines.specs.Rows.{window, run_state, oldest}
+use Rattle.machines.specs.Rows.{window, run_state}
+use Rattle.machines.specs.Windows.{oldest}
 use Rattle.machines.specs.Run.{drain}
 use Rattle.machines.proofs.RunStates.{front, left}
 use Rattle.machines.proofs.rows.Run.drain.Goals as goal

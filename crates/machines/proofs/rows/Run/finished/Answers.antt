@@ -14,8 +14,8 @@ pub returns : goal.returns
 returns c =
     let cs = threads c.args.case.now in
     let m = c.args.self.now in
-    spent_by (λ r. r.next) cs (run_state cs m).rest m.rows (search rules)
+    spent_by (λ r. r.window.next) cs (run_state cs m).rest m.rows (search rules)
     (λ k d h e. ap isNil (rest_is cs m k (omega arith) d) ∙ drop-long (thread cs k) _ e) (λ k d h e. ap isNil (rest_is cs m k (omega arith) d) ∙ drop-short (thread cs k) _ e) c.all.result
-    (cases_from_all c.all.new.self _ c.all.result (λ p. length (thread cs p.1) ≤ p.0.next) (λ p. p.0.next < length (thread cs p.1)) c.all.ensures.ran
+    (cases_from_all c.all.new.self _ c.all.result (λ p. length (thread cs p.1) ≤ p.0.window.next) (λ p. p.0.window.next < length (thread cs p.1)) c.all.ensures.ran
     (YieldsList-from_zip (YieldsList-at c.zip-rows.ensures.first (YieldsList-from_slice m.rows c.iter.ensures.rest)) (YieldsList-from_range 0 8 8 c.zip-rows.ensures.second (omega arith)))
     (λ x q k. search (rules, tests)) (λ x q k. search (rules, tests)))

@@ -1,4 +1,4 @@
-use Rattle.std.proofs.Common.{◌≡◌, ◌+◌, eqb, Bool, List, ◌∷◌, length, get_or, drop, Some, None, Err, sym, refl, ap, ◌∙◌, arith}
+use Rattle.std.proofs.Common.{◌≡◌, ◌+◌, eqb, Bool, List, ◌∷◌, length, get_or, drop, Some, None, Err, sym, refl, ap, ◌∙◌, arith, rules}
 use Rattle.std.specs.List.{slice_get}
 use Rattle.std.specs.Option.{ok_or}
 use Rattle.std.specs.Result.{result_ok}
@@ -41,9 +41,9 @@ abbrev state : In_ok-action → RunState
 state c = run_state (threads c.args.case.now) c.args.self.now
 
 abbrev rest : In_ok-action → List Action
-rest c = drop ((get_or c.args.self.now.rows c.args.thread c.index-self-thread.result).next + 1) (thread (threads c.args.case.now) c.args.thread)
+rest c = drop ((get_or c.args.self.now.rows c.args.thread c.index-self-thread.result).window.next + 1) (thread (threads c.args.case.now) c.args.thread)
 
-here : (c : In_ok-action) → Some c.in_ok-action.action ≡ slice_get (thread (threads c.args.case.now) c.args.thread) (get_or c.args.self.now.rows c.args.thread c.index-self-thread.result).next
+here : (c : In_ok-action) → Some c.in_ok-action.action ≡ slice_get (thread (threads c.args.case.now) c.args.thread) (get_or c.args.self.now.rows c.args.thread c.index-self-thread.result).window.next
 here c = sym (ap result_ok c.in_ok-action.was) ∙ sym c.ok_or.ensures.ok_part ∙ c.action.ensures.value
 
 -- it is the action a
@@ -54,7 +54,7 @@ pub pass-requires : goal.pass-requires
 pass-requires c = place-small c.args.case.now c.args.thread _ _ (here (goal.at.pass-requires c).In_ok-action)
 
 pub join-requires : goal.join-requires
-join-requires c = place-small c.args.case.now c.args.thread _ _ (here (goal.at.join-requires c).In_ok-action)
+join-requires c = record { next = place-small c.args.case.now c.args.thread _ _ (here (goal.at.join-requires c).In_ok-action); table = search rules }
 
 pub pass-requires-in-Sync : goal.pass-requires-in-Sync
 pass-requires-in-Sync c = place-small c.args.case.now c.args.thread _ _ (here (goal.at.pass-requires-in-Sync c).In_ok-action)
@@ -85,7 +85,7 @@ returns-else-sees-seen c =
     ∙ read-seen t (state v) (rest v) a.name a.location a.seen (ap (λ b. sees a.location b ((state v).memory a.location)) (buffer_is cs m t (omega arith) d) ∙ sym c.sees.ensures ∙ c.if-sees-seen.false) in
     record {
       answer = sym (ap answer o);
-      after = passed cs m t (omega arith) d _ c.pass.ensures.next _ _ e c.pass.ensures.waiting _ _ _ refl refl ∙ sym (ap (moved (state v)) o);
+      after = passed cs m t (omega arith) d _ c.pass.ensures.next _ _ e c.pass.ensures.from c.pass.ensures.upto refl _ _ _ refl refl ∙ sym (ap (moved (state v)) o);
       kept = tt;
     }
 
@@ -155,7 +155,7 @@ returns-in_ok-synchronize-in-Sync c =
     record {
       answer = sym (ap answer o);
       after =
-          passed cs m t (omega arith) d _ c.pass-in-Sync.ensures.next _ _ e c.pass-in-Sync.ensures.waiting _ _ _ c.in_ok-synchronize-in-Sync.ensures.writes c.in_ok-synchronize-in-Sync.ensures.turns
+          passed cs m t (omega arith) d _ c.pass-in-Sync.ensures.next _ _ e c.pass-in-Sync.ensures.from c.pass-in-Sync.ensures.upto refl _ _ _ c.in_ok-synchronize-in-Sync.ensures.writes c.in_ok-synchronize-in-Sync.ensures.turns
           ∙ sym (ap (moved (state v)) o);
       kept = tt;
     }

@@ -13,7 +13,9 @@ use text::{Row, TextFault};
 
 // Lists of these lengths have room for more than a file may hold, and so have the bytes for its text.
 const RECORDS: usize = 300;
+
 const ITEMS: usize = 5_000;
+
 const BYTES: usize = 66_000;
 
 fn refused(rt: &HostRuntime, name: &str, fault: TextFault) -> io::Result<()> {
@@ -40,38 +42,34 @@ fn again<R: Row>(rt: &HostRuntime, name: &str, text: &[u8], rows: &mut [R]) -> i
     }
 }
 
-fn case(rt: &HostRuntime, name: &str, text: &[u8]) -> io::Result<()> {
-    again(rt, name, text, &mut [Record::default(); RECORDS])
-}
-
-fn evidence(rt: &HostRuntime, name: &str, text: &[u8]) -> io::Result<()> {
-    again(rt, name, text, &mut [Item::default(); ITEMS])
-}
-
-fn case_file(rt: &HostRuntime, name: &str) -> io::Result<()> {
+fn file<R: Row>(rt: &HostRuntime, name: &str, rows: &mut [R]) -> io::Result<()> {
     let text = fs::read(rt, name)?;
-    case(rt, name, text.as_slice())
-}
-
-fn evidence_file(rt: &HostRuntime, name: &str) -> io::Result<()> {
-    let text = fs::read(rt, name)?;
-    evidence(rt, name, text.as_slice())
+    again(rt, name, text.as_slice(), rows)
 }
 
 fn files(rt: &HostRuntime) -> io::Result<()> {
-    case_file(rt, "python_case.csv")?;
-    case_file(rt, "sqlite_case.csv")?;
-    case_file(rt, "awk_case.csv")?;
-    case_file(rt, "full_case.csv")?;
-    case_file(rt, "overfull_case.csv")?;
-    case_file(rt, "python_quoted_case.csv")?;
-    case_file(rt, "python_unix_case.csv")?;
-    evidence_file(rt, "python_evidence.csv")?;
-    evidence_file(rt, "sqlite_evidence.csv")?;
-    evidence_file(rt, "full_evidence.csv")?;
-    evidence_file(rt, "overfull_evidence.csv")?;
-    evidence_file(rt, "bytes_65535.csv")?;
-    evidence_file(rt, "bytes_65536.csv")
+    for name in [
+        "python_case.csv",
+        "sqlite_case.csv",
+        "awk_case.csv",
+        "full_case.csv",
+        "overfull_case.csv",
+        "python_quoted_case.csv",
+        "python_unix_case.csv",
+    ] {
+        file(rt, name, &mut [Record::default(); RECORDS])?;
+    }
+    for name in [
+        "python_evidence.csv",
+        "sqlite_evidence.csv",
+        "full_evidence.csv",
+        "overfull_evidence.csv",
+        "bytes_65535.csv",
+        "bytes_65536.csv",
+    ] {
+        file(rt, name, &mut [Item::default(); ITEMS])?;
+    }
+    Ok(())
 }
 
 // Wrong lines behind the header of a case: what is wrong, and the lines.
@@ -128,33 +126,37 @@ fn wrong(rt: &HostRuntime) -> io::Result<()> {
 // Headers, a list that is full, and evidence.
 fn others(rt: &HostRuntime) -> io::Result<()> {
     let mut one = [Record::default()];
-    case(rt, "empty", b"")?;
-    case(rt, "header not ended", b"thread,letter,target,value,seen,turn")?;
-    case(rt, "header of evidence", b"item,thread,place,count\r\n")?;
-    case(rt, "LF only", b"thread,letter,target,value,seen,turn\n")?;
+    for (name, text) in [
+        ("empty", b"".as_slice()),
+        ("header not ended", b"thread,letter,target,value,seen,turn"),
+        ("header of evidence", b"item,thread,place,count\r\n"),
+        ("LF only", b"thread,letter,target,value,seen,turn\n"),
+    ] {
+        again(rt, name, text, &mut one)?;
+    }
     behind(rt, "no room", b"0,B,0,0,0,1\r\n", &mut [])?;
-    behind(
-        rt,
-        "full, and a wrong field",
-        b"0,B,0,0,0,1\r\n007,B,0,0,0,1\r\n",
-        &mut one,
-    )?;
-    behind(
-        rt,
-        "full, and a field too few",
-        b"0,B,0,0,0,1\r\n0,B,0,0,0\r\n",
-        &mut one,
-    )?;
-    evidence(
-        rt,
-        "letter of a case",
-        b"item,thread,place,count\r\nB,0,0,0\r\n",
-    )?;
-    evidence(
-        rt,
-        "letter, then 256",
-        b"item,thread,place,count\r\nA,0,0,256\r\n",
-    )
+    for (name, rest) in [
+        (
+            "full, and a wrong field",
+            b"0,B,0,0,0,1\r\n007,B,0,0,0,1\r\n".as_slice(),
+        ),
+        ("full, and a field too few", b"0,B,0,0,0,1\r\n0,B,0,0,0\r\n"),
+    ] {
+        behind(rt, name, rest, &mut one)?;
+    }
+    for (name, text) in [
+        (
+            "letter of a case",
+            b"item,thread,place,count\r\nB,0,0,0\r\n".as_slice(),
+        ),
+        (
+            "letter, then 256",
+            b"item,thread,place,count\r\nA,0,0,256\r\n",
+        ),
+    ] {
+        again(rt, name, text, &mut [Item::default(); ITEMS])?;
+    }
+    Ok(())
 }
 
 // The number of the refusal with which a case is written, and 0 where it is written: no line is meant.
@@ -166,8 +168,14 @@ fn refusal(records: &[Record], bytes: &mut [u8]) -> u8 {
 fn writings(rt: &HostRuntime) -> io::Result<()> {
     let mut bytes = [7u8; 49];
     let plain = Record::default();
-    let begun = Record { letter: 'B', ..plain };
-    let strange = Record { letter: 'x', ..plain };
+    let begun = Record {
+        letter: 'B',
+        ..plain
+    };
+    let strange = Record {
+        letter: 'x',
+        ..plain
+    };
     let fault = refusal(&[begun; 257], &mut bytes);
     println!(rt; "257 records: {fault}")?;
     let fault = refusal(&[begun, strange], &mut bytes);

@@ -1,11 +1,10 @@
 -- The fields of a line read from the left, and a row written from the left.
-use Rattle.std.proofs.Common.{◌≡◌, ℕ, ◌+◌, ◌<◌, ◌≤◌, true, cond, List, [], ◌∷◌, ◌++◌, length, set, Some, None, Ok, Err, Result, sym, refl, ap, ◌∙◌, arith, length-append}
-use Rattle.std.proofs.lemmas.List.{length_push}
+use Rattle.std.proofs.Common.{◌≡◌, ℕ, true, cond, List, [], ◌∷◌, ◌++◌, length, Some, None, Ok, Err, Result, sym, refl, ap, ◌∙◌, arith, length-append}
 use Rattle.std.proofs.lemmas.Bool.{cond-true}
-use Rattle.text.specs.Csv.{cr, lf, first_of, rest_of}
+use Rattle.text.specs.Csv.{first_of, rest_of}
 use Rattle.records.specs.Refusals.{Refusal}
 use Rattle.text.specs.Reading.{cell_of, then, cells_of, at_front}
-use Rattle.text.specs.Sheets.{Column, ended, row_text, all_known}
+use Rattle.text.specs.Sheets.{Column, row_text, all_known}
 use Rattle.text.specs.declared.field.Fields.{Fields}
 use Rattle.text.specs.declared.put.Writer.{Writer}
 use Rattle.text.specs.Lines.{to_come, OneRead}

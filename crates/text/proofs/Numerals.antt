@@ -5,7 +5,7 @@ use Rattle.std.specs.Int.{IsInRange, IsOutOfRange}
 use Rattle.std.specs.Char.{digit_value as digitValue, is_ascii_digit}
 use Rattle.std.specs.List.{list_all}
 use Rattle.std.specs.Str.{all_ascii_digits}
-use Rattle.std.proofs.lemmas.Bool.{cond-true, cond-false, cases_Bool, cases_eq, cases_lt, and_from, and_parts, and_left, and_right, and_cases, or_cases, or_left, or_right, or_from, not-true, not_from_false, not_from_true, ltb-true, leb-true, eqb-true, eqb-false, lt-ltb, le-ltb, le-leb, lt-leb, eq-eqb, ne_eqb}
+use Rattle.std.proofs.lemmas.Bool.{cond-true, cond-false, cases_Bool, cases_eq, cases_lt, and_from, and_parts, and_left, and_right, and_cases, or_cases, or_left, or_right, not-true, not_from_false, ltb-true, leb-true, eqb-true, eqb-false, lt-ltb, le-leb, lt-leb, eq-eqb, ne_eqb}
 use Rattle.std.proofs.lemmas.Bool.Decides.{nat_tests}
 use Rattle.std.proofs.lemmas.List.{take_all, take_more, length_push}
 use Rattle.std.proofs.lemmas.Int.Digits.{digits_value_more, digits_value-lt}
@@ -103,12 +103,6 @@ module _ (most : ℕ) (s : List ℕ) where
 
   pub none-plain : (ltb 0 (length s) && all_ascii_digits s) ≡ false → None ≡ numeral most s
   none-plain h = ⊎_elim (λ e. none_if (and_left (ltb 0 (length s)) _ e)) (λ e. none-digits (and_left (all_ascii_digits s) _ e)) (and_cases (ltb 0 (length s)) (all_ascii_digits s) h)
-
-  pub none-empty : length s ≡ 0 → None ≡ numeral most s
-  none-empty e = none_if (and_left _ _ (le-ltb 0 (length s) (omega arith)))
-
-  pub none_zero : 1 < length s → get_or s 0 0 ≡ 48 → None ≡ numeral most s
-  none_zero l z = none_rest (and_left (no_zero_ahead s) _ (or_from _ _ (not_from_true _ (eq-eqb _ _ z)) (ne_eqb (length s) 1 (λ e. omega arith))))
 
   pub none_digit : (i : ℕ) → i < length s → IsOutOfRange 48 57 (get_or s i 0) → None ≡ numeral most s
   none_digit i l out = none-digits (and_left (all_ascii_digits s) _ (⊎_elim wrong (λ e. e) (cases_Bool (all_ascii_digits s))))

@@ -3,9 +3,9 @@ use Rattle.std.proofs.Common.{◌≡◌, ℕ, ◌+◌, ◌-◌, ◌<◌, ◌≤�
 use Rattle.std.specs.List.{position, position_or_len}
 use Rattle.std.proofs.ByRecursion.{All-append, All-from_get_or}
 use Rattle.std.proofs.lemmas.List.Quantifiers.{position-Some}
-use Rattle.std.proofs.lemmas.List.{get_or-take, get_or-drop, drop-drop, length-take-le, take-append-drop, drop_more, drop_all, take_all, take_rest}
+use Rattle.std.proofs.lemmas.List.{get_or-take, get_or-drop, drop-drop, length-take-le, take-append-drop, drop_more, drop_all, take_rest}
 use Rattle.std.proofs.lemmas.List.Sums.{fails_before_first}
-use Rattle.std.proofs.lemmas.Bool.{cond-true, cases_Bool, cases_lt, or_cases, or_parts, ltb-false, ne_eqb, eq-eqb, eqb-true}
+use Rattle.std.proofs.lemmas.Bool.{cond-true, cases_Bool, cases_lt, or_cases, or_parts, ltb-false, ne_eqb, eqb-true}
 use Rattle.text.specs.Csv.{comma, cr, lf, on_first, split, fields, first_of, rest_of, lines, first_line}
 use Rattle.text.proofs.Apart.{none≢some}
 use Rattle.text.proofs.Splits.{Free, cut, split-free, split-cut, split_on, split-ahead, line_at, line_not, line-free}

@@ -4,7 +4,7 @@ use Rattle.records.specs.declared.Record.{Record}
 use Rattle.records.specs.declared.Item.{Item}
 use Rattle.text.specs.Csv.{comma, cr, lf}
 use Rattle.text.specs.Files.{case_sheet, record_cells, evidence_sheet, item_cells}
-use Rattle.text.specs.Sheets.{ended, row_text}
+use Rattle.text.specs.Sheets.{row_text}
 
 -- a number and the byte behind it
 abbrev pub cell : ℕ → ℕ → List ℕ

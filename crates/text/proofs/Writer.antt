@@ -1,5 +1,5 @@
 -- Loops that measure rows and write their text, one row after the other.
-use Rattle.std.proofs.Common.{◌≡◌, ℕ, ◌+◌, ◌<◌, ◌≤◌, Bool, true, false, cond, ◌&&◌, ltb, List, [], ◌∷◌, ◌++◌, map, length, get_or, take, drop, Ok, Err, sym, refl, ap, ◌∙◌, subst, append_assoc, append-nil, arith, length-append}
+use Rattle.std.proofs.Common.{◌≡◌, ℕ, ◌+◌, ◌<◌, ◌≤◌, Bool, true, false, cond, ◌&&◌, ltb, List, [], ◌∷◌, ◌++◌, map, length, get_or, take, drop, Ok, Err, sym, refl, ap, ◌∙◌, subst, append_assoc, arith, length-append}
 use Rattle.std.specs.List.{flat_map, AllByRecursion}
 use Rattle.std.proofs.ByRecursion.{All-map, All-push}
 use Rattle.std.proofs.lemmas.List.{map-append, map_more, take_more, take_all, take-append-drop, drop_more, flat_map_more, length-map, length-take-le}
@@ -7,10 +7,8 @@ use Rattle.std.proofs.lemmas.Bool.{cond-true, cond-false, and_from, and_left, an
 use Rattle.text.specs.Csv.{cr, lf}
 use Rattle.records.specs.Refusals.{Refusal, refusal}
 use Rattle.text.specs.Sheets.{Sheet, Fit, ended, row_text, text_of, all_known, rows_known}
-use Rattle.text.specs.Reading.{at_front}
-use Rattle.text.specs.Writing.{measured, fitting, writing, placed}
+use Rattle.text.specs.Writing.{measured, fitting, writing}
 use Rattle.text.proofs.Apart.{cond_ok, cond_err}
-use Rattle.text.proofs.Places.{placed-more, placed-front, placed-over}
 use Rattle.text.proofs.RoundTrip.{Made, text-short}
 
 -- ── Letters ──
@@ -48,9 +46,6 @@ module _ {X : Type 0} (sh : Sheet) (cells : X → List ℕ) (rows : List X) wher
 
   pub front-none : length (Front 0) ≡ length sh.header + 2
   front-none = omega (arith, length-append (ended sh.header) [], length-append sh.header (cr ∷ lf ∷ []))
-
-  pub front-header : Front 0 ≡ ended sh.header
-  front-header = append-nil (ended sh.header)
 
   pub front-all : (i : ℕ) → length rows ≤ i → Front i ≡ text_of sh (map cells rows)
   front-all i l = ap (λ xs. text_of sh (map cells xs)) (take_all i rows l)

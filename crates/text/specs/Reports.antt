@@ -1,5 +1,6 @@
 -- A file of one row, whose fields are words and numbers.
-use Rattle.std.specs.Prelude.{ℕ, List, ◌++◌, map, decimal}
+use Rattle.std.specs.Prelude.{◌≡◌, ℕ, List, ◌∷◌, ◌++◌, map, decimal}
+use Rattle.std.proofs.Common.{sym, ap, append_assoc}
 use Rattle.text.specs.declared.report.Cell.{Cell}
 use Rattle.text.specs.declared.report.Cell.TheVariants.{Word, Number}
 use Rattle.text.specs.Csv.{comma, join}
@@ -11,6 +12,13 @@ abbrev pub cell_bytes : Cell → List ℕ
 cell_bytes (Word s) = s.now
 cell_bytes (Number n) = decimal n
 
--- the header's line, and the line of the fields
+-- a header's line, and a line of these fields
+abbrev pub one_row_text : List ℕ → List (List ℕ) → List ℕ
+one_row_text header fields = ended header ++ ended (join comma fields)
+
 abbrev pub report_text : List ℕ → List Cell → List ℕ
-report_text header row = ended header ++ ended (join comma (map cell_bytes row))
+report_text header row = one_row_text header (map cell_bytes row)
+
+-- two fields are as good as one that has the comma between them
+pub two_fields : (header a b c : List ℕ) (others : List (List ℕ)) → one_row_text header (a ∷ b ∷ c ∷ others) ≡ one_row_text header ((a ++ comma ∷ b) ∷ c ∷ others)
+two_fields header a b c others = ap (λ line. ended header ++ ended line) (sym (append_assoc a (comma ∷ b) (comma ∷ join comma (c ∷ others))))

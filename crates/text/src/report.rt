@@ -65,11 +65,7 @@ fn put_fields(row: &[Cell<'_>], text: &mut Writer<'_>)
 
 // Writes a file of one row over the front of `out`: a header line, and a line of these fields. Answers how many bytes that
 // is; 6, with nothing written, where `out` is shorter.
-pub fn write_report(
-    header: &[u8],
-    row: &[Cell<'_>],
-    out: &mut [u8],
-) -> Result<usize, TextFault>
+pub fn write_report(header: &[u8], row: &[Cell<'_>], out: &mut [u8]) -> Result<usize, TextFault>
     ensures answer { answered result ≡ fitting (report_text header.now row.now) (length out.old) }
     ensures after { out.new ≡ written (answered result) (report_text header.now row.now) out.old }
 {

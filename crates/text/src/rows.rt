@@ -1,4 +1,4 @@
-// Whole files, read and written for any kind of row.
+// Whole files, read and written for any kind of row: cases and evidence.
 ghost use Rattle.std.specs.Prelude.{◌≡◌, ◌≤◌, map, length, take, IfOk, OnOk};
 ghost use Rattle.std.specs.List.{AllByRecursion};
 ghost use Rattle.text.specs.Faults.{answered};
@@ -41,6 +41,7 @@ pub fn read<R: Row>(text: &[u8], rows: &mut [R]) -> Result<usize, TextFault>
         if count == room {
             return Err(TextFault::Full { line });
         }
+        // By index, since behind an `iter_mut` a proof knows nothing of what the list holds.
         rows[count] = R::parse(Fields::of(body, line))?;
         count += 1;
     }

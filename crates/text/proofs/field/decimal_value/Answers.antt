@@ -1,4 +1,4 @@
-use Rattle.std.proofs.Common.{◌≡◌, ◌+◌, ◌-◌, ◌*◌, get_or, sym, refl, ◌∙◌, arith}
+use Rattle.std.proofs.Common.{◌+◌, ◌-◌, ◌*◌, get_or, sym, refl, ◌∙◌, arith}
 use Rattle.std.proofs.lemmas.Bool.Decides.{nat_tests}
 use Rattle.text.proofs.Numerals.{none_digit, none-large, some-whole, one_more}
 use Rattle.text.proofs.field.decimal_value.Goals as goal
@@ -32,6 +32,3 @@ returns-then-n-most-clause-value c =
       | in_default w ↦ some-whole c.args.most s i c.loop-b.n c.loop-b-test.false c.loop-b.invariant.0 c.loop-b.invariant.1 c.if-n-most.true (grind (arith, nat_tests)) (λ z. grind (arith, nat_tests))
       | in_default-2 w ↦ some-whole c.args.most s i c.loop-b.n c.loop-b-test.false c.loop-b.invariant.0 c.loop-b.invariant.1 c.if-n-most.true (grind (arith, nat_tests)) (λ z. grind (arith, nat_tests))
     ]
-
-pub returns-else-n-most-clause-value : goal.returns-else-n-most-clause-value
-returns-else-n-most-clause-value c = none-large c.args.most c.args.digits.now c.loop-b.b-index c.loop-b.n c.loop-b.invariant.0 c.if-n-most.false

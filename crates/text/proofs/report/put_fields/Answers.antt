@@ -1,16 +1,9 @@
-use Rattle.std.proofs.Common.{◌+◌, ◌∷◌, [], map, sym, subst, arith}
-use Rattle.std.proofs.lemmas.List.{take_all}
+use Rattle.std.proofs.Common.{sym, subst, arith}
 use Rattle.text.specs.declared.put.Writer.{Writer}
-use Rattle.text.specs.Csv.{comma, join}
-use Rattle.text.specs.Reports.{cell_bytes}
 use Rattle.text.specs.Writing.{HasRoom, Wrote}
-use Rattle.text.proofs.Columns.{wrote-none}
 use Rattle.text.proofs.Joined.{Field, comma-fits, first-fits, first-wrote, more-fits, more-wrote}
 use Rattle.text.proofs.report.put_fields.Goals as goal
 use Rattle.text.proofs.report.put_fields.Goals.{then-i-gt0, else-i-gt0}
-
-pub loop-i-init : goal.loop-i-init
-loop-i-init c = wrote-none c.args.text.now
 
 pub byte-requires : goal.byte-requires
 byte-requires c = comma-fits c.args.row.now c.loop-i.i c.loop-i-test.true c.requires c.loop-i.invariant c.if-i-gt0.true
@@ -28,6 +21,3 @@ loop-i-preserved c =
       | then-i-gt0 w ↦ more-wrote c.args.row.now c.loop-i.i c.loop-i-test.true c.requires c.loop-i.invariant w.if-i-gt0.true w.byte.ensures.wrote (subst (λ (t : Writer). Wrote t c.put.new.text (Field c.args.row.now c.loop-i.i)) w.text-is c.put.ensures.wrote)
       | else-i-gt0 w ↦ first-wrote c.args.row.now c.loop-i.i c.loop-i-test.true c.requires c.loop-i.invariant (omega (arith, w.if-i-gt0.false)) (subst (λ (t : Writer). Wrote t c.put.new.text (Field c.args.row.now c.loop-i.i)) w.text-is c.put.ensures.wrote)
     ]
-
-pub returns : goal.returns
-returns c = record { wrote = subst (λ xs. Wrote c.args.text.now c.loop-i.text (join comma (map cell_bytes xs))) (take_all c.loop-i.i c.args.row.now c.loop-i-test.false) c.loop-i.invariant }

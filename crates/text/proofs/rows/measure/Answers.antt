@@ -7,12 +7,9 @@ use Rattle.text.specs.Faults.{told}
 use Rattle.text.specs.Sheets.{all_known, row_text}
 use Rattle.text.proofs.Apart.{cond-none, cond-some}
 use Rattle.text.proofs.RoundTrip.{made}
-use Rattle.text.proofs.Writer.{Front, Fits, front-none, front-more, front-short, fits_more, unknown, all-measured}
+use Rattle.text.proofs.Writer.{Front, Fits, front-more, front-short, fits_more, unknown, all-measured}
 use Rattle.text.proofs.rows.measure.Given.{Over}
 use Rattle.text.proofs.rows.measure.Goals as goal
-
-pub loop-row-init : goal.loop-row-init
-loop-row-init g c = (omega (arith, ap length c.header.ensures.value, front-none g.R.Row.sheet g.R.Row.cells c.args.rows.now), tt)
 
 pub returns-in_err-total : goal.returns-in_err-total
 returns-in_err-total g c =

@@ -1,4 +1,4 @@
-use Rattle.std.proofs.Common.{◌≡◌, ◌+◌, ◌<◌, ◌≤◌, true, length, drop, sym, ap, ◌∙◌, rules, arith}
+use Rattle.std.proofs.Common.{◌≡◌, true, drop, sym, ap, ◌∙◌, arith}
 use Rattle.std.proofs.lemmas.Result.{err_from_is_err_and}
 use Rattle.std.specs.Str.{bytes_eq}
 use Rattle.text.specs.declared.line.Lines.{Lines}
@@ -46,19 +46,14 @@ returns-in_err-rows g c =
     let q = err_from_is_err_and c.from_residual.result c.from_residual.ensures.1 in
     rw (q.1, q.2) (record { answer = p.0; after = p.1; whole = tt })
 
-pub bounds-rows-count : goal.bounds-rows-count
-bounds-rows-count g c = omega (arith, c.loop-next.invariant.2.few)
-
-pub offset_bounds-rows-count : goal.offset_bounds-rows-count
-offset_bounds-rows-count g c = let h : c.loop-next.count < length c.args.rows.now = omega (arith, c.loop-next.invariant.2.few) in search rules
-
 pub loop-next-preserved : goal.loop-next-preserved
 loop-next-preserved g c =
     let next = rw c.in-Some-next.is at c.in-Some.ensures.steps in
     let cells = c.in_ok-rows.ensures.value ∙ (λ i. cells_of (c.of.ensures.line i) g.R.Row.sheet.columns (c.of.ensures.fields i)) in (
-      tt, tt,
+      tt,
+      tt,
       one_more g.R.Row.sheet g.R.Row.cells g.R.Row.row c.args.text.now c.args.rows.now c.loop-next.rows c.loop-next.count c.loop-next.next-iterator.rest.now c.in-Some-next.next.body.now c.next-in-loop-next.new.self.rest.now c.in_ok-rows.field-0
-      c.loop-next.auto.rows (omega (arith, c.loop-next.invariant.2.few, c.most.ensures.value)) c.loop-next.invariant.2 (sym next.1) (sym next.2.0 ∙ c.if-next-columns.true ∙ c.columns.ensures.value) cells next.2.1,
+          c.loop-next.auto.rows (omega (arith, c.loop-next.invariant.2.few, c.most.ensures.value)) c.loop-next.invariant.2 (sym next.1) (sym next.2.0 ∙ c.if-next-columns.true ∙ c.columns.ensures.value) cells next.2.1,
     )
 
 pub returns : goal.returns

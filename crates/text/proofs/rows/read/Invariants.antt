@@ -1,4 +1,3 @@
-use Rattle.std.proofs.Common.{◌≡◌}
 use Rattle.text.proofs.Reader.{Sofar}
 use Rattle.text.proofs.rows.read.Given as goal
 

@@ -6,16 +6,11 @@ use Rattle.std.specs.List.{flat_map}
 use Rattle.text.specs.Reading.{at_front}
 use Rattle.text.specs.Sheets.{Fit, ended, row_text, text_of}
 use Rattle.text.specs.Writing.{HasRoom, Wrote}
-use Rattle.text.proofs.Columns.{wrote-none, wrote-then, wrote-front}
+use Rattle.text.proofs.Columns.{wrote-then, wrote-front}
 use Rattle.text.proofs.Reader.{reads_as}
 use Rattle.text.proofs.RoundTrip.{made, text-reads}
-use Rattle.text.proofs.Writer.{Lines, lines-more, front_le, writes-many, writes-unknown, writes_short, writes-all, size_is}
+use Rattle.text.proofs.Writer.{Lines, lines-more, front_le, writes-unknown, writes-all, size_is}
 use Rattle.text.proofs.rows.write.Goals as goal
-
-pub returns-then-rows-most : goal.returns-then-rows-most
-returns-then-rows-most g c =
-    let cells = g.R.Row.cells in let rows = c.args.rows.now in
-    record { answer = writes-many g.R.Row.sheet (map cells rows) _ (omega (arith, length-map rows cells)); after = refl; back = tt }
 
 pub returns-in_err-size : goal.returns-in_err-size
 returns-in_err-size g c =
@@ -23,19 +18,11 @@ returns-in_err-size g c =
     let p = err_from_is_err_and c.from_residual.result c.from_residual.ensures.1 in
     rw (p.1, p.2) (record { answer = writes-unknown sh (map cells rows) _ (omega (arith, length-map rows cells)) _ c.in_err-size.ensures.value; after = refl; back = tt })
 
-pub returns-then-size-out : goal.returns-then-size-out
-returns-then-size-out g c =
-    let sh = g.R.Row.sheet in let cells = g.R.Row.cells in let rows = c.args.rows.now in
-    record { answer = writes_short sh (map cells rows) _ (omega (arith, length-map rows cells)) _ c.in_ok-size.ensures.value c.if-size-out.true; after = refl; back = tt }
-
 pub line-requires : goal.line-requires
 line-requires g c =
     let sh = g.R.Row.sheet in let cells = g.R.Row.cells in let rows = c.args.rows.now in
     let size = size_is sh (map cells rows) 0 (omega (arith, length-map rows cells)) _ c.in_ok-size.ensures.value in
     omega (arith, ap (λ h. length (ended h)) c.header.ensures.value, front_le sh cells rows 0, length-append (ended sh.header) [], c.new-text.ensures.end, ap length c.new-text.ensures.bytes)
-
-pub loop-row-init : goal.loop-row-init
-loop-row-init g c = wrote-none _
 
 pub put-requires : goal.put-requires
 put-requires g c =

@@ -5,7 +5,7 @@ use Rattle.std.proofs.lemmas.List.Sums.{length-filter}
 use Rattle.std.proofs.lemmas.Iterator.{YieldsList-from_slice}
 use Rattle.std.proofs.lemmas.Iterator.Consumers.{count_from_yields_List, YieldsList-from_filter}
 use Rattle.std.proofs.lemmas.Iterator.Search.{position_from_yields_List}
-use Rattle.text.specs.Csv.{comma, cr, lf, fields, lines}
+use Rattle.text.specs.Csv.{comma, lines}
 use Rattle.text.proofs.Scans.{ends, ended_at, line_open, line_broken, line-found, lines_at, behind_at, rest_behind}
 use Rattle.text.proofs.Splits.{length-split}
 use Rattle.text.proofs.line.Line.first.Goals as goal

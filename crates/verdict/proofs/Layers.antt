@@ -1,6 +1,5 @@
 -- The layers in their order, once both texts are read: the form decides, or the examination.
-use Rattle.std.proofs.Common.{◌≡◌, ℕ, ◌-◌, false, cond, not, List, take, is_some, Some, None, refl, sym, ap, ◌∙◌, subst}
-use native.Mathlib.Nat.{sub-zero}
+use Rattle.std.proofs.Common.{◌≡◌, ℕ, cond, not, List, take, is_some, Some, None, refl, sym, ap, ◌∙◌, subst}
 use Rattle.records.specs.declared.Item.{Item}
 use Rattle.records.specs.declared.Record.{Record}
 use Rattle.records.specs.Refusals.{Refusal}
@@ -9,7 +8,7 @@ use Rattle.case.specs.Cases.{filled, records_of}
 use Rattle.form.specs.Form.{form_refusal}
 use Rattle.text.specs.Files.{evidence_text, case_reading, record_of, evidence_reading, item_of}
 use Rattle.verdict.specs.declared.layer.Layer.TheVariants.{CaseText, EvidenceText, Case}
-use Rattle.verdict.specs.Judging.{Judged, Refused, case_refusal, evidence_refusal, records_in, items_in, examined_as, judged, is_allowed}
+use Rattle.verdict.specs.Judging.{Refused, case_refusal, evidence_refusal, records_in, examined_as, judged, is_allowed}
 use Rattle.verdict.specs.Converting.{other_kind, delivered, converted}
 use Rattle.verdict.specs.Rows.{verdict_text}
 use Rattle.verdict.specs.Reads.{InFront, Loaded}
@@ -18,20 +17,16 @@ module _ (ct et : List ℕ) (n m : ℕ) (rs : List Record) (is : List Item) (cas
   evidence : InFront item_of (evidence_reading 4352 et) m is
   evidence = subst (λ k. InFront item_of (evidence_reading k et) m is) full evidence-read
 
-  -- the part of the table that is checked is what was read
-  records-read : take (n - 0) rs ≡ records_in ct
-  records-read = ap (λ k. take k rs) (sub-zero n) ∙ cases.rows
+  pub form_decides : (q : Refusal) → Some q ≡ form_refusal (take n rs) → Refused Case q ≡ judged ct et
+  form_decides q e = let found : form_refusal (records_in ct) ≡ Some q = sym (e ∙ ap form_refusal cases.rows) in rw (cases.ends, evidence.ends, found)
 
-  pub form_decides : (q : Refusal) → Some q ≡ form_refusal (take (n - 0) rs) → Refused Case q ≡ judged ct et
-  form_decides q e = let found : form_refusal (records_in ct) ≡ Some q = sym (e ∙ ap form_refusal records-read) in rw (cases.ends, evidence.ends, found)
-
-  pub all_loaded : (k : CheckedCase) (old : List Record) → None ≡ form_refusal (take (n - 0) rs) → records_of k ≡ filled (take (n - 0) rs) old → Loaded ct et k is m
+  pub all_loaded : (k : CheckedCase) (old : List Record) → None ≡ form_refusal (take n rs) → records_of k ≡ filled (take n rs) old → Loaded ct et k is m
   all_loaded k old e holds =
       record {
         case_reads = cases.ends;
         evidence_reads = evidence.ends;
-        is_in_form = sym (e ∙ ap form_refusal records-read);
-        records = holds ∙ ap (λ z. cond (not (is_some z)) (take (n - 0) rs) old) (sym e) ∙ records-read;
+        is_in_form = sym (e ∙ ap form_refusal cases.rows);
+        records = holds ∙ ap (λ z. cond (not (is_some z)) (take n rs) old) (sym e) ∙ cases.rows;
         items = evidence.rows;
         few = evidence.few;
       }
@@ -41,24 +36,15 @@ pub case_decides : (ct et : List ℕ) (q : Refusal) → case_refusal ct ≡ Some
 case_decides ct et q e = rw e refl
 
 pub evidence_decides : (ct et : List ℕ) (q : Refusal) → case_refusal ct ≡ None → evidence_refusal et ≡ Some q → Refused EvidenceText q ≡ judged ct et
-evidence_decides ct et q f e = rw (f, e) refl
+evidence_decides ct et q reads e = rw (reads, e) refl
 
 -- then the examination decides
 module _ (ct et : List ℕ) (k : CheckedCase) (is : List Item) (n : ℕ) (so : Loaded ct et k is n) where
-  pub items_loaded : take (n - 0) is ≡ items_in et
-  items_loaded = ap (λ j. take j is) (sub-zero n) ∙ so.items
+  pub examination_decides : examined_as (records_of k) (take n is) ≡ judged ct et
+  examination_decides = rw (so.records, so.items, so.case_reads, so.evidence_reads, so.is_in_form)
 
-  pub examination_decides : examined_as (records_of k) (take (n - 0) is) ≡ judged ct et
-  examination_decides = rw (so.records, items_loaded, so.case_reads, so.evidence_reads, so.is_in_form)
-
-  pub delivers : delivered (records_of k) (take (n - 0) is) ≡ converted ct et
+  pub delivers : delivered (records_of k) (take n is) ≡ converted ct et
   delivers =
-      ap (λ j. cond (is_allowed j) (evidence_text (other_kind (records_of k) (take (n - 0) is))) (verdict_text j)) examination_decides
-      ∙ ap (λ xs. cond (is_allowed (judged ct et)) (evidence_text (other_kind xs (take (n - 0) is))) (verdict_text (judged ct et))) so.records
-      ∙ ap (λ ys. cond (is_allowed (judged ct et)) (evidence_text (other_kind (records_in ct) ys)) (verdict_text (judged ct et))) items_loaded
-
--- a refusal of the layers below is what is written
-pub refusal-delivers : (ct et : List ℕ) (j : Judged) → is_allowed j ≡ false → j ≡ judged ct et → verdict_text j ≡ converted ct et
-refusal-delivers ct et j not_allowed e =
-    sym (ap (λ b. cond b (evidence_text (other_kind (records_in ct) (items_in et))) (verdict_text j)) not_allowed)
-    ∙ ap (λ i. cond (is_allowed i) (evidence_text (other_kind (records_in ct) (items_in et))) (verdict_text i)) e
+      ap (λ j. cond (is_allowed j) (evidence_text (other_kind (records_of k) (take n is))) (verdict_text j)) examination_decides
+      ∙ ap (λ xs. cond (is_allowed (judged ct et)) (evidence_text (other_kind xs (take n is))) (verdict_text (judged ct et))) so.records
+      ∙ ap (λ ys. cond (is_allowed (judged ct et)) (evidence_text (other_kind (records_in ct) ys)) (verdict_text (judged ct et))) so.items

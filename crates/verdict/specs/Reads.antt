@@ -1,11 +1,9 @@
 -- What reading a text into a list gives to the judge: the rows in front of the list, or the refusal.
-use Rattle.std.specs.Prelude.{◌≡◌, ℕ, ◌≤◌, List, map, length, take, Some, None, Ok, Err, Result}
+use Rattle.std.specs.Prelude.{◌≡◌, ℕ, ◌≤◌, List, map, length, take, None}
 use Rattle.records.specs.declared.Item.{Item}
-use Rattle.records.specs.declared.Record.{Record}
 use Rattle.case.specs.declared.checked.CheckedCase.{CheckedCase}
 use Rattle.case.specs.Cases.{records_of}
 use Rattle.form.specs.Form.{form_refusal}
-use Rattle.text.specs.Files.{case_reading, record_of, evidence_reading, item_of}
 use Rattle.text.specs.Reading.{Reading}
 use Rattle.verdict.specs.Judging.{case_refusal, records_in, evidence_refusal, items_in}
 

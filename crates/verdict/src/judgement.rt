@@ -1,6 +1,6 @@
 // What the judge says, and the row that it is written as.
 ghost use Rattle.std.specs.Prelude.{◌≡◌, Ok};
-ghost use Rattle.verdict.specs.Judging.{is_allowed};
+ghost use Rattle.verdict.specs.Judging.{is_allowed as allowed};
 ghost use Rattle.verdict.specs.Rulings.{said};
 ghost use Rattle.verdict.specs.Rows.{told, row_of};
 
@@ -16,12 +16,6 @@ pub struct Ruling {
 }
 
 impl Ruling {
-    pub fn is_allowed(&self) -> bool
-        ensures value { result ≡ is_allowed (said (Ok self.now)) }
-    {
-        matches!(self.verdict, Verdict::Allowed(_))
-    }
-
     fn row(&self) -> VerdictRow
         ensures value { row_of result ≡ told (said (Ok self.now)) }
     {
@@ -40,6 +34,18 @@ impl Ruling {
 
 // A ruling on the evidence, or the refusal of the first layer that refuses.
 pub type Judgement = Result<Ruling, Fault>;
+
+pub fn is_allowed(judgement: &Judgement) -> bool
+    ensures value { result ≡ allowed (said judgement.now) }
+{
+    matches!(
+        judgement,
+        Ok(Ruling {
+            verdict: Verdict::Allowed(_),
+            ..
+        })
+    )
+}
 
 // Verdict, layer, refusal and place.
 #[derive(Clone, Copy)]

@@ -34,7 +34,7 @@ use conversion::write_other_kind;
 use docket::fault::DocketFault;
 use docket::{Docket, Verdict};
 use fault::Fault;
-use judgement::{Judgement, Ruling, VerdictRow};
+use judgement::{Judgement, Ruling, VerdictRow, is_allowed};
 use kinds::Evidence;
 use layer::Kind;
 use machines::lists::Certificate;
@@ -77,8 +77,14 @@ fn load(
     ensures loaded { MatchResult result (λ n. Loaded case_text.now evidence_text.now case.new items.new n) (λ f. said (Err f) ≡ judged case_text.now evidence_text.now) }
 {
     let mut records = [Record::default(); 256];
-    let count = read(case_text, &mut records).map_err(Fault::CaseText)?;
-    let taken = read(evidence_text, items).map_err(Fault::EvidenceText)?;
+    let count = match read(case_text, &mut records) {
+        Ok(count) => count,
+        Err(fault) => return Err(Fault::CaseText(fault)),
+    };
+    let taken = match read(evidence_text, items) {
+        Ok(taken) => taken,
+        Err(fault) => return Err(Fault::EvidenceText(fault)),
+    };
     case.fill(&records[..count])?;
     Ok(taken)
 }
@@ -128,10 +134,11 @@ fn write_examined(case: &CheckedCase, items: &[Item], out: &mut [u8]) -> Result<
     ensures answer { answered result ≡ fitting (delivered (records_of case.now) items.now) (length out.old) }
     ensures after { out.new ≡ written (answered result) (delivered (records_of case.now) items.now) out.old }
 {
-    match examined(case, items) {
-        Ok(ruling) if ruling.is_allowed() => write_other_kind(case, items, out),
-        judgement => write_judgement(&judgement, out),
+    let judgement = examined(case, items);
+    if is_allowed(&judgement) {
+        return write_other_kind(case, items, out);
     }
+    write_judgement(&judgement, out)
 }
 
 // Writes evidence of the other kind where the verdict is "allowed", and the verdict where it is not, over the front of

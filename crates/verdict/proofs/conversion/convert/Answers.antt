@@ -1,4 +1,4 @@
-use Rattle.std.proofs.Common.{length, ◌∙◌, arith}
+use Rattle.std.proofs.Common.{length, arith}
 use Rattle.case.specs.Cases.{records_of, threads}
 use Rattle.machines.specs.Certificate.{certificate_machine}
 use Rattle.machines.specs.Faults.{run_number, certificate_number}

@@ -14,24 +14,17 @@ use Rattle.sessions.specs.Examinations.{Examines, said, holding, closed}
 
 -- ── Opening: granted, or refused by 41 or 43 ──
 granted : (a b : Bool) (t t' : TicketName) → Opened t ≡ cond a (own 41) (cond b (own 43) (Opened t')) → (a ≡ false) × (b ≡ false)
-granted true b t t' e = let z : ◌≡◌ {A = ℕ} 0 1 = cc in absurd (omega arith)
-granted false true t t' e = let z : ◌≡◌ {A = ℕ} 0 1 = cc in absurd (omega arith)
-granted false false t t' e = (refl, refl)
+granted a b t t' e = grind arith
 
 refused_as_opening : (a b : Bool) (q : Refusal) (t : TicketName) (y : Reply) → Refused q ≡ cond a (own 41) (cond b (own 43) (Opened t)) → Refused q ≡ cond a (own 41) (cond b (own 43) y)
-refused_as_opening true b q t y e = e
-refused_as_opening false true q t y e = e
-refused_as_opening false false q t y e = let z : ◌≡◌ {A = ℕ} 0 1 = cc in absurd (omega arith)
+refused_as_opening a b q t y e = grind arith
 
 left_by_opening : (a b : Bool) (q : Refusal) (t : TicketName) (p x y : Plain) → Refused q ≡ cond a (own 41) (cond b (own 43) (Opened t)) → cond a p (cond b p x) ≡ cond a p (cond b p y)
-left_by_opening true b q t p x y e = refl
-left_by_opening false true q t p x y e = refl
-left_by_opening false false q t p x y e = let z : ◌≡◌ {A = ℕ} 0 1 = cc in absurd (omega arith)
+left_by_opening a b q t p x y e = grind arith
 
 -- ── Offering: taken, or refused by the kind ──
 joins : {S : Type 0} (p : Plain) (is : List Item) (x : Item) (n : ℕ) (o : Result S ℕ) → Taken ≡ item_reply n o → joined (holding p is) x o ≡ holding p (is ++ (x ∷ []))
-joins p is x n (Ok s) e = refl
-joins p is x n (Err k) e = let z : ◌≡◌ {A = ℕ} 0 1 = cc in absurd (omega arith)
+joins p is x n o e = grind arith
 
 -- the number by which the kind refuses, and the place
 pub record Barred {S : Type 0} (q : Refusal) (n : ℕ) (o : Result S ℕ) : Type 0 where
@@ -39,19 +32,14 @@ pub record Barred {S : Type 0} (q : Refusal) (n : ℕ) (o : Result S ℕ) : Type
   pub place : q.place ≡ n
 
 barred : {S : Type 0} (q : Refusal) (n : ℕ) (o : Result S ℕ) → Refused q ≡ item_reply n o → Barred q n o
-barred q n (Ok s) e = let z : ◌≡◌ {A = ℕ} 0 1 = cc in absurd (omega arith)
-barred q n (Err k) e =
-    let same : q ≡ record { number = k; place = n } = cc in
-    record { number = ap (λ (r : Refusal). Err r.number) (sym same); place = ap (λ (r : Refusal). r.place) same }
+barred q n o e = record { number = grind arith; place = grind arith }
 
 -- ── Settling ──
 ruled : (w : Bool) (n : ℕ) → verdict w n ≡ said (outcome_of None w n)
-ruled true n = refl
-ruled false n = refl
+ruled w n = grind arith
 
 settled : (p : Plain) (is : List Item) (w : Bool) (n : ℕ) → now_settled w (holding p is) ≡ closed p is (outcome_of None w n)
-settled p is true n = refl
-settled p is false n = refl
+settled p is w n = grind arith
 
 module _ {K F : Type 0} (kind : Ghosts K F) where
   -- the docket d₁ opened an examination, and is d now, with these items taken

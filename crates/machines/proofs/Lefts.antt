@@ -1,9 +1,9 @@
 -- What is left of each thread's moved list, as the checker's table tells it, and what a move makes of it.
-use Rattle.std.proofs.Common.{◌≡◌, ℕ, zero, suc, ◌+◌, ◌-◌, ◌<◌, ◌≤◌, Bool, List, [], ◌∷◌, map, length, get_or, take, drop, set, replicate, is_some, Some, None, Ok, Err, Result, unwrap_or, sym, refl, ap, ◌∙◌, ⊎_elim, arith}
+use Rattle.std.proofs.Common.{◌≡◌, ℕ, zero, suc, ◌+◌, ◌-◌, ◌<◌, ◌≤◌, Bool, List, [], ◌∷◌, map, length, get_or, take, drop, set, replicate, is_some, Some, Ok, Result, unwrap_or, sym, refl, ap, ◌∙◌, ⊎_elim, arith}
 use mathlib.Core.Path.{fun_ext}
 use Rattle.std.specs.List.{slice_get}
 use Rattle.std.proofs.lemmas.List.{length-take, length-drop, length-map, nil_from_length, ext_get_or, get_or-set_same, get_or-set_other, get_or-map, get_or-take, get_or-replicate, drop_more, drop-take, drop-drop, take-take, take-map, drop-map, map-set}
-use Rattle.std.proofs.lemmas.Bool.{cases_eq, cases_lt, le-ltb, lt-ltb, false≢true}
+use Rattle.std.proofs.lemmas.Bool.{cases_eq, cases_lt, lt-ltb, false≢true}
 use Rattle.records.specs.declared.action.Action.{Action}
 use Rattle.records.specs.declared.action.Action.TheVariants.{Sync}
 use Rattle.records.specs.declared.action.SyncOp.TheVariants.{End}
@@ -17,7 +17,7 @@ use Rattle.machines.specs.Memory.{upd, held}
 use Rattle.machines.specs.Moves.{shift}
 use Rattle.machines.proofs.Moves.{move-part, move_ok}
 use Rattle.machines.proofs.Shifts.{take-shift, drop-shift, map-shift}
-use Rattle.machines.proofs.Steps.{need_fails, need-holds}
+use Rattle.machines.proofs.Steps.{need-holds}
 use Rattle.machines.proofs.Tables.{upd_at, upd_off}
 
 pub action-there : (l : List Action) (p : ℕ) → unwrap_or (slice_get l p) (Sync 0 0 End) ≡ action_at l p
@@ -30,19 +30,12 @@ head-some : (a : Action) (rs : List Action) → Some a ≡ head_of rs → rs ≡
 head-some a [] e = absurd (false≢true (ap is_some (sym e)))
 head-some a (b ∷ rs) e = let q : b ≡ a = cc in ap (λ x. x ∷ rs) q
 
-pub head-none : (rs : List Action) → None ≡ head_of rs → rs ≡ []
-head-none [] e = refl
-head-none (b ∷ rs) e = absurd (false≢true (ap is_some e))
-
 module _ (l : List Action) (n : ℕ) (places : List ℕ) where
   length_most : length (left_of l n places) ≤ length l - n
   length_most = simp (length-drop, length-map, length-take) (omega arith)
 
   pub left-none : length l ≤ n → left_of l n places ≡ []
   left-none h = nil_from_length _ (omega (arith, length_most))
-
-  left-past : (p c : ℕ) → length l ≤ n + p + c + 1 → move_in p c (left_of l n places) ≡ Err 32
-  left-past p c h = need_fails _ 32 _ (le-ltb (p + c + 1) (length (left_of l n places)) (omega (arith, length_most)))
 
   -- a comes next
   pub left-next : (a : Action) → Some a ≡ head_of (left_of l n places) → left_of l n places ≡ a ∷ left_of l (n + 1) places
@@ -105,9 +98,6 @@ module _ (c : Case) (lists : List MovedList) (t : ℕ) where
   pub lefts-over : thread c t ≡ [] → lefts c lists t ≡ []
   lefts-over e = left-none (thread c t) (come_of lists t) (places_of lists t) (omega (arith, ap length e))
 
-  pub move-over : (p k : ℕ) → thread c t ≡ [] → move_in p k (lefts c lists t) ≡ Err 32
-  move-over p k e = left-past (thread c t) (come_of lists t) (places_of lists t) p k (omega (arith, ap length e))
-
   pub lefts-set : (m : MovedList) → t < length lists → lefts c (set lists t m) ≡ upd (lefts c lists) t (left_of (thread c t) m.next m.places)
   lefts-set m h =
       fun_ext (λ u.
@@ -134,9 +124,6 @@ module _ (c : Case) (lists : List MovedList) (t : ℕ) (d : MovedList) (in' : t 
   -- all have come
   pub lefts-none : length (thread c t) ≤ (get_or lists t d).next → lefts c lists t ≡ []
   lefts-none h = lefts_at ∙ left-none (thread c t) (get_or lists t d).next (get_or lists t d).places h
-
-  pub move-past : (p k : ℕ) → length (thread c t) ≤ (get_or lists t d).next + p + k + 1 → move_in p k (lefts c lists t) ≡ Err 32
-  move-past p k h = ap (move_in p k) lefts_at ∙ left-past (thread c t) (get_or lists t d).next (get_or lists t d).places p k h
 
   module _ (few : length (thread c t) ≤ 64) where
     fits : length (thread c t) ≤ length (get_or lists t d).places

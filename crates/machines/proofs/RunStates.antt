@@ -1,7 +1,7 @@
 -- What a change of one row, of memory or of the turns makes of the state that the run checker's table stands for.
-use Rattle.std.proofs.Common.{◌≡◌, ℕ, suc, ◌+◌, ◌<◌, ◌≤◌, Bool, true, false, eqb, List, [], ◌∷◌, ◌++◌, map, length, get_or, drop, set, is_some, Some, None, Ok, Err, Result, sym, refl, ap, ◌∙◌, arith}
+use Rattle.std.proofs.Common.{◌≡◌, ℕ, suc, ◌+◌, ◌<◌, Bool, true, false, eqb, List, [], ◌∷◌, ◌++◌, map, length, get_or, drop, set, is_some, Some, None, Ok, Err, Result, sym, refl, ap, ◌∙◌, arith}
 use Rattle.std.specs.List.{slice_get, between}
-use Rattle.std.proofs.lemmas.List.{map-set, length-map, get_or-map, get_or_past, map_push, drop-drop, drop_all, set-get_or}
+use Rattle.std.proofs.lemmas.List.{map-set, length-map, get_or-map, map_push, drop-drop, set-get_or}
 use Rattle.std.proofs.lemmas.Bool.{eq-eqb, ne_eqb, false≢true}
 use Rattle.records.specs.declared.action.Action.{Action}
 use Rattle.records.specs.declared.action.Action.TheVariants.{Read, Sync}
@@ -27,10 +27,6 @@ use Rattle.machines.proofs.Threads.{drop-some, drop-none}
 pub oldest-some : (ws : List PendingWrite) (w : PendingWrite) → Some w ≡ oldest ws → ws ≡ w ∷ younger ws
 oldest-some [] w e = absurd (false≢true (ap is_some (sym e)))
 oldest-some (v ∷ ws) w e = let q : v ≡ w = cc in ap (λ x. x ∷ ws) q
-
-pub oldest-none : (ws : List PendingWrite) → None ≡ oldest ws → ws ≡ []
-oldest-none [] e = refl
-oldest-none (v ∷ ws) e = absurd (false≢true (ap is_some e))
 
 is_nil-map : {X Y : Type 0} (f : X → Y) (l : List X) → isNil (map f l) ≡ eqb (length l) 0
 is_nil-map f [] = refl
@@ -59,12 +55,6 @@ module _ (t : ℕ) (s : RunState) (rs : List Action) where
     sync-in empty e = need-holds _ 23 _ empty ∙ comes_in_step (λ f. run_number (run_fault f)) k o s.memory s.turns _ e
 
 -- ── One row of the table ──
-pub rest_over : (c : Case) (m : Run) (t : ℕ) → thread c t ≡ [] → (run_state c m).rest t ≡ []
-rest_over c m t e = ap (drop (next_of m.rows t)) e ∙ drop_all (next_of m.rows t) [] (omega arith)
-
-pub buffer-none : (c : Case) (m : Run) (t : ℕ) → length m.rows ≤ t → (run_state c m).buffer t ≡ []
-buffer-none c m t h = ap (map (waits_of t)) (get_or_past (map window m.rows) t [] (omega (arith, length-map m.rows window)))
-
 -- the row of thread t is row, which d stands in for past the end
 module _ (c : Case) (m : Run) (t : ℕ) (h : t < length m.rows) (d : Row) where
   abbrev s : RunState

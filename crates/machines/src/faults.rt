@@ -58,12 +58,12 @@ pub enum CertificateFault {
     SawAnother,
 }
 
-// Why memory does not let a synchronization action come, in either machine.
+// Why memory does not let an action come, in either machine.
 #[derive(Clone, Copy, Debug, PartialEq)]
 pub(crate) enum Mismatch {
     // its turn is not the next
     NotItsTurn,
-    // a volatile read that saw another write than memory holds
+    // it saw another write than memory holds
     SawAnother,
 }
 

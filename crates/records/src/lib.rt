@@ -14,7 +14,7 @@ ghost use Rattle.records.specs.Letters.{is_capital, is_plain, is_volatile, is_re
 pub mod action;
 
 // One action of a case, as it was traced. Which fields are used is told by the letter; the others are 0 in a case in form.
-#[derive(Clone, Copy, Debug, PartialEq)]
+#[derive(Clone, Copy, Debug, Default, PartialEq)]
 pub struct Record {
     pub letter: char,
     pub value: u32,
@@ -25,7 +25,7 @@ pub struct Record {
 }
 
 // One step of evidence: of a run ('A', 'D') or of a certificate ('M', 'O').
-#[derive(Clone, Copy, Debug, PartialEq)]
+#[derive(Clone, Copy, Debug, Default, PartialEq)]
 pub struct Item {
     pub letter: u8,
     pub thread: u8,

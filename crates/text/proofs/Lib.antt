@@ -10,3 +10,4 @@ pub mod Texts
 pub mod Columns
 pub mod Reader
 pub mod Writer
+pub mod Joined

@@ -1,15 +1,15 @@
 -- The number that a stretch writes, and the stretch that writes a number.
-use Rattle.std.proofs.Common.{◌≡◌, ℕ, ◌+◌, ◌-◌, ◌*◌, ◌^◌, ◌<◌, ◌≤◌, Bool, true, false, ◌&&◌, ltb, leb, List, [], ◌∷◌, ◌++◌, length, get_or, take, drop, Some, None, decimal, sym, refl, ap, ◌∙◌, subst, ⊎_elim, arith, take-append-drop}
+use Rattle.std.proofs.Common.{◌≡◌, ℕ, zero, suc, ◌+◌, ◌-◌, ◌*◌, ◌/◌, ◌%◌, ◌^◌, ◌<◌, ◌≤◌, Bool, true, false, ◌&&◌, ltb, leb, List, [], ◌∷◌, ◌++◌, length, get_or, take, drop, Some, None, decimal, sym, refl, ap, ◌∙◌, subst, ⊎_elim, arith, take-append-drop}
 use Rattle.std.specs.Str.Parse.{digits_value, digits_value_after}
 use Rattle.std.specs.Int.{IsInRange, IsOutOfRange}
 use Rattle.std.specs.Char.{digit_value as digitValue, is_ascii_digit}
 use Rattle.std.specs.Str.{all_ascii_digits}
-use Rattle.std.proofs.lemmas.Bool.{cond-true, cond-false, cases_Bool, cases_eq, cases_lt, and_from, and_parts, and_left, and_right, and_cases, or_cases, or_left, or_right, or_from, not-true, not_from_false, not_from_true, ltb-true, leb-true, eqb-true, eqb-false, lt-ltb, le-ltb, le-leb, lt-leb, eq-eqb, ne_eqb}
+use Rattle.std.proofs.lemmas.Bool.{cond-true, cond-false, cases_Bool, cases_eq, cases_lt, and_from, and_parts, and_left, and_right, and_cases, or_cases, or_left, or_right, not-true, not_from_false, ltb-true, leb-true, eqb-true, eqb-false, lt-ltb, le-leb, lt-leb, eq-eqb, ne_eqb}
 use Rattle.std.proofs.lemmas.Bool.Decides.{nat_tests}
-use Rattle.std.proofs.lemmas.List.{take_all, take_more}
+use Rattle.std.proofs.lemmas.List.{take_all, take_more, length_push}
 use Rattle.std.proofs.lemmas.Int.Digits.{digits_value_more, digits_value-lt}
 use Rattle.std.proofs.lemmas.Str.Parse.{IsNumeralModel, numerals_by_value, tells_all_ascii_digits, digit_at}
-use Rattle.std.proofs.lemmas.Fmt.{decimal-digits_value, decimal_nonempty, decimal_digit, first_decimal, digits_decimal, digits_value-decimal, length-decimal-le}
+use Rattle.std.proofs.lemmas.Fmt.{decimal-digits_value, decimal_nonempty, decimal_digit, decimal_step, first_decimal, digits_decimal, digits_value-decimal, length-decimal-le}
 use Rattle.text.specs.Fields.{no_zero_ahead, numeral}
 use Rattle.text.proofs.Apart.{none≢some, some_same}
 
@@ -99,12 +99,6 @@ module _ (most : ℕ) (s : List ℕ) where
   pub none-plain : (ltb 0 (length s) && all_ascii_digits s) ≡ false → None ≡ numeral most s
   none-plain h = ⊎_elim (λ e. none_if (and_left (ltb 0 (length s)) _ e)) (λ e. none-digits (and_left (all_ascii_digits s) _ e)) (and_cases (ltb 0 (length s)) (all_ascii_digits s) h)
 
-  pub none-empty : length s ≡ 0 → None ≡ numeral most s
-  none-empty e = none_if (and_left _ _ (le-ltb 0 (length s) (omega arith)))
-
-  pub none_zero : 1 < length s → get_or s 0 0 ≡ 48 → None ≡ numeral most s
-  none_zero l z = none_rest (and_left (no_zero_ahead s) _ (or_from _ _ (not_from_true _ (eq-eqb _ _ z)) (ne_eqb (length s) 1 (λ e. omega arith))))
-
   pub none_digit : (i : ℕ) → i < length s → IsOutOfRange 48 57 (get_or s i 0) → None ≡ numeral most s
   none_digit i l out = none-digits (and_left (all_ascii_digits s) _ (⊎_elim wrong (λ e. e) (cases_Bool (all_ascii_digits s))))
     where
@@ -128,3 +122,17 @@ module _ (most : ℕ) (s : List ℕ) where
   one_more i n m l d dig e ds step =
       let dv = digit_value (get_or s i 0) dig in
       (omega (arith, digits_value_more 10 s i l), ap all_ascii_digits (take_more s i 0 l) ∙ digits_push (take i s) (get_or s i 0) ∙ and_from _ _ ds d)
+
+-- ── How many digits a number has ──
+pub length-step : (n : ℕ) → 10 ≤ n → n < 2 ^ 64 → length (decimal n) ≡ length (decimal (n / 10)) + 1
+length-step n big fits = ap length (decimal_step n big fits) ∙ length_push (decimal (n / 10)) (48 + n % 10)
+
+pub length-by_power : (k n : ℕ) → 10 ^ k ≤ n → n < 10 * 10 ^ k → n < 2 ^ 64 → length (decimal n) ≡ k + 1
+length-by_power zero n le lt fits = ap length (decimal_digit n (omega arith))
+length-by_power (suc k) n le lt fits =
+    let p = power-pos k in
+    omega (arith, length-step n (omega arith) fits, length-by_power k (n / 10) (omega arith) (omega arith) (omega arith))
+  where
+    power-pos : (k : ℕ) → 0 < 10 ^ k
+    power-pos zero = omega arith
+    power-pos (suc k) = let h = power-pos k in omega arith

@@ -5,11 +5,11 @@ use Rattle.std.proofs.lemmas.List.{length-map, length-take-le, take-append-drop,
 use Rattle.std.proofs.lemmas.Bool.{cond-true, cond-false, eq-eqb, ne_eqb, le-ltb}
 use Rattle.text.specs.Csv.{lf, fields, join, lines, first_line}
 use Rattle.records.specs.Refusals.{Refusal, refusal}
-use Rattle.text.specs.Reading.{cells_of, row_of, Reading, refused, ahead, on_row, rows_from, begins, reading, ends_as, answer_of, at_front, filled}
-use Rattle.text.specs.Sheets.{Column, Sheet, text_of}
+use Rattle.text.specs.Reading.{cells_of, row_of, Reading, finished, refused, ahead, on_row, rows_from, begins, reading, ends_as, answer_of, at_front, filled}
+use Rattle.text.specs.Sheets.{Column, Sheet, text_of, well_made}
 use Rattle.text.proofs.Apart.{none≢some}
 use Rattle.text.specs.Writing.{ReadsAs}
-use Rattle.text.proofs.RoundTrip.{Made, ReadsBack, reading-text}
+use Rattle.text.proofs.RoundTrip.{ReadsBack, made, reading-text}
 use Rattle.text.proofs.Splits.{join-split}
 
 -- ── One line of a text that was cut by LF ──
@@ -99,28 +99,56 @@ module _ {X : Type 0} (sh : Sheet) (cells : X → List ℕ) (row : List ℕ → 
       let is = h (length out) (omega arith) in
       (ap answer_of is ∙ ap (λ k. Ok k) n, ap (λ rd. filled row rd out) is ∙ ap (λ ys. at_front ys out) (again back xs))
 
-  -- the reading ends here
-  module _ (back : (x : X) → row (cells x) ≡ x) (text : List ℕ) (out now : List X) (count : ℕ) (rest : List ℕ) (long : length now ≡ length out) (s : Sofar text out now count rest)
-      (e : Option Refusal) (stop : rows_from sh.columns (min (length out) sh.most - count) (count + 2) (lines rest) ≡ record { rows = []; end = e }) where
+-- ── Where the reading ends ──
+module _ {X : Type 0} {sh : Sheet} {cells : X → List ℕ} {row : List ℕ → X} {text : List ℕ} {out now : List X} {count : ℕ} {rest : List ℕ}
+    (back : (x : X) → row (cells x) ≡ x) (long : length now ≡ length out) (s : Sofar sh cells row text out now count rest) where
+  -- what the caller is answered, and what the list holds
+  abbrev pub Answers : Result ℕ Refusal → Type 0
+  Answers r = (r ≡ answer_of (reading sh (length out) text)) × (now ≡ filled row (reading sh (length out) text) out)
+
+  -- no row comes from what is left
+  module _ (e : Option Refusal) (stop : rows_from sh.columns (min (length out) sh.most - count) (count + 2) (lines rest) ≡ record { rows = []; end = e }) where
     whole : reading sh (length out) text ≡ record { rows = map cells (take count now); end = e }
     whole = s.is ∙ ap (ahead (map cells (take count now))) stop ∙ (λ i. record { rows = append-nil (map cells (take count now)) i; end = e })
 
     size : length (map cells (take count now)) ≡ count
     size = length-map (take count now) cells ∙ length-take-le count now (let f = s.few in omega arith)
 
-    answers : ends_as e count ≡ answer_of (reading sh (length out) text)
-    answers = ap (ends_as e) (sym size) ∙ sym (ap answer_of whole)
-
     fills : now ≡ filled row (reading sh (length out) text) out
     fills =
         sym (take-append-drop count now)
-        ∙ (λ i. sym (again back (take count now)) i ++ s.tail i)
+        ∙ (λ i. sym (again sh cells row back (take count now)) i ++ s.tail i)
         ∙ ap (λ k. map row (map cells (take count now)) ++ drop k out) (sym (length-map (map cells (take count now)) row ∙ size))
         ∙ ap (λ rd. filled row rd out) (sym whole)
 
-    -- the answer, and the list
-    pub ends : (ends_as e count ≡ answer_of (reading sh (length out) text)) × (now ≡ filled row (reading sh (length out) text) out)
-    ends = (answers, fills)
+    ends : Answers (ends_as e count)
+    ends = (ap (ends_as e) (sym size) ∙ sym (ap answer_of whole), fills)
 
-    pub reads_whole : Made sh → e ≡ None → text ≡ text_of sh (map cells (take count now))
-    reads_whole m none = reading-text sh (length out) text m (ap (λ (rd : Reading). rd.end) whole ∙ none) ∙ ap (λ (rd : Reading). text_of sh rd.rows) whole
+  -- nothing is left
+  module _ (none : rest ≡ []) where
+    stop : rows_from sh.columns (min (length out) sh.most - count) (count + 2) (lines rest) ≡ finished
+    stop = ap (λ t. rows_from sh.columns (min (length out) sh.most - count) (count + 2) (lines t)) none
+
+    pub at-end : Answers (Ok count)
+    at-end = ends None stop
+
+    pub reads_whole : well_made sh ≡ true → text ≡ text_of sh (map cells (take count now))
+    reads_whole m = reading-text sh (length out) text (made sh m) (ap (λ (rd : Reading). rd.end) (whole None stop)) ∙ ap (λ (rd : Reading). text_of sh rd.rows) (whole None stop)
+
+  -- what is left does not begin with a line
+  pub at_broken : 0 < length rest → first_line (lines rest) ≡ None → Answers (Err (refusal 1 (count + 2)))
+  at_broken l e = ends _ (broken sh.columns _ (count + 2) rest l e)
+
+  module _ (line : List ℕ) (e : first_line (lines rest) ≡ Some line) where
+    -- with a line of too few fields or too many
+    pub at_miscounted : (length (fields line) ≡ length sh.columns → ⊥) → Answers (Err (refusal 1 (count + 2)))
+    at_miscounted wrong = ends _ (miscounted sh.columns _ (count + 2) rest line e wrong)
+
+    module _ (right : length (fields line) ≡ length sh.columns) where
+      -- with a line for which there is no room
+      pub at-overfull : count ≡ min (length out) sh.most → Answers (Err (refusal 4 (count + 2)))
+      at-overfull full = ends _ (overfull sh.columns _ (count + 2) rest line e right (omega arith))
+
+      -- with a line that has a field which is refused
+      pub at_refused : (count ≡ min (length out) sh.most → ⊥) → (r : Refusal) → Err r ≡ cells_of (count + 2) sh.columns (fields line) → Answers (Err r)
+      at_refused some r h = ends _ (looked sh.columns _ (count + 2) rest line e right (let f = s.few in omega arith) (Err r) h)

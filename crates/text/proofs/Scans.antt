@@ -1,11 +1,21 @@
 -- What a scan of a text has found at a byte, or at its end.
-use Rattle.std.proofs.Common.{◌≡◌, ℕ, ◌+◌, ◌-◌, ◌<◌, ◌≤◌, false, eqb, List, [], ◌∷◌, ◌++◌, length, get_or, take, drop, Some, None, count_by, sym, refl, ap, ◌∙◌, subst, append_assoc, arith}
+use Rattle.std.proofs.Common.{◌≡◌, ℕ, ◌+◌, ◌-◌, ◌<◌, ◌≤◌, false, eqb, List, [], ◌∷◌, ◌++◌, length, get_or, take, drop, Some, None, count_by, sym, refl, ap, ◌∙◌, ⊎_elim, subst, append_assoc, arith}
 use Rattle.std.proofs.ByRecursion.{All-append, All-more}
-use Rattle.std.proofs.lemmas.List.{take-append-drop, drop_more, drop_all, take_all, take_rest}
+use Rattle.std.proofs.lemmas.List.{take_all, get_or-drop, drop-drop, take-append-drop, drop_more, drop_all, take_rest}
 use Rattle.std.proofs.lemmas.List.Sums.{count_by_more_yes, count_by_more_no}
-use Rattle.std.proofs.lemmas.Bool.{ne_eqb, eq-eqb}
+use Rattle.std.proofs.lemmas.Bool.{cases_lt, ne_eqb, eq-eqb}
 use Rattle.text.specs.Csv.{comma, cr, lf, on_first, split, fields, first_of, rest_of, lines, first_line}
 use Rattle.text.proofs.Splits.{Free, cut, split-free, split-cut, split_on, split-ahead, line_at, line_not, line-free}
+
+-- ── The first byte c of s ──
+pub record Found (c : ℕ) (s : List ℕ) (i : ℕ) : Type 0 where
+  pub inside : i < length s
+  pub before : Free c (take i s)
+  pub is : get_or s i 0 ≡ c
+
+-- and none at all
+pub none_found : (c : ℕ) (s : List ℕ) (i : ℕ) → length s ≤ i → Free c (take i s) → Free c s
+none_found c s i l h = subst (Free c) (take_all i s l) h
 
 -- ── At each byte of s before the place i ──
 module _ (s : List ℕ) (i : ℕ) (l : i < length s) where
@@ -25,26 +35,28 @@ module _ (s : List ℕ) (i : ℕ) (l : i < length s) where
   pub cut_at : (c : ℕ) → Free c (take i s) → get_or s i 0 ≡ c → split c s ≡ take i s ∷ split c (drop (i + 1) s)
   cut_at c h is = ap (split c) (around ∙ ap (λ x. take i s ++ x ∷ drop (i + 1) s) is) ∙ split-cut c (take i s) (drop (i + 1) s) h
 
+-- what stands behind the first i bytes
+pub behind_at : (s t : List ℕ) (i k j : ℕ) → t ≡ drop i s → i + k ≡ j → get_or t k 0 ≡ get_or s j 0
+behind_at s t i k j is at = ap (λ l. get_or l k 0) is ∙ get_or-drop i s k 0 ∙ ap (λ n. get_or s n 0) at
+
+pub rest_behind : (s t : List ℕ) (i : ℕ) → t ≡ drop i s → take (length t - 2) (drop 2 t) ≡ drop (i + 2) s
+rest_behind s t i is = take_rest t 2 ∙ ap (drop 2) is ∙ drop-drop 2 i s
+
 pub rest_of_lem : (s : List ℕ) (i : ℕ) → take (length s - i) (drop i s) ≡ drop i s
 rest_of_lem s i = take_rest s i
 
 -- ── Fields ──
-pub first_field : (s : List ℕ) (i : ℕ) → i < length s → Free comma (take i s) → get_or s i 0 ≡ comma → take (i - 0) s ≡ first_of (fields s)
-first_field s i l h is =
-    let z : i - 0 ≡ i = omega arith in
-    ap (λ k. take k s) z ∙ sym (ap first_of (cut_at s i l comma h is))
+pub first_field : (s : List ℕ) (i : ℕ) → Found comma s i → take i s ≡ first_of (fields s)
+first_field s i f = sym (ap first_of (cut_at s i f.inside comma f.before f.is))
 
-pub other-fields : (s : List ℕ) (i : ℕ) → i < length s → Free comma (take i s) → get_or s i 0 ≡ comma → fields (take (length s - (i + 1)) (drop (i + 1) s)) ≡ rest_of (fields s)
-other-fields s i l h is =
+pub other-fields : (s : List ℕ) (i : ℕ) → Found comma s i → fields (take (length s - (i + 1)) (drop (i + 1) s)) ≡ rest_of (fields s)
+other-fields s i f =
     let t = cut comma (drop (i + 1) s) in
-    ap fields (rest_of_lem s (i + 1)) ∙ t.is ∙ sym (ap rest_of (cut_at s i l comma h is ∙ ap (λ ps. take i s ∷ ps) t.is))
+    ap fields (rest_of_lem s (i + 1)) ∙ t.is ∙ sym (ap rest_of (cut_at s i f.inside comma f.before f.is ∙ ap (λ ps. take i s ∷ ps) t.is))
 
 -- a line without a comma is one field
-pub only_field : (s : List ℕ) (i : ℕ) → length s ≤ i → Free comma (take i s) → fields s ≡ s ∷ []
-only_field s i l h = split-free comma s (subst (Free comma) (take_all i s l) h)
-
-pub no_fields : (s : List ℕ) (i : ℕ) → length s ≤ i → Free comma (take i s) → fields (take (length s - length s) (drop (length s) s)) ≡ rest_of (fields s)
-no_fields s i l h = ap fields (rest_of_lem s (length s) ∙ drop_all (length s) s (omega arith)) ∙ sym (ap rest_of (only_field s i l h))
+pub only_field : (s : List ℕ) → Free comma s → fields s ≡ s ∷ []
+only_field s h = split-free comma s h
 
 -- ── Lines ──
 module _ (s : List ℕ) (i : ℕ) (a : Free cr (take i s)) (b : Free lf (take i s)) where
@@ -90,3 +102,7 @@ module _ (s : List ℕ) (i : ℕ) (a : Free cr (take i s)) (b : Free lf (take i 
   -- no end at all
   pub line_open : length s ≤ i → first_line (lines s) ≡ None
   line_open l = ap first_line (split-free lf s (subst (Free lf) (take_all i s l) b))
+
+  -- CR that no LF follows
+  pub cr_broken : get_or s i 0 ≡ cr → i < length s → (i + 1 < length s → get_or s (i + 1) 0 ≡ lf → ⊥) → first_line (lines s) ≡ None
+  cr_broken c l no' = ⊎_elim (λ m. line_cr m c (no' m)) (λ e. line-last e l c) (cases_lt (i + 1) (length s))

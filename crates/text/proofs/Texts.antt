@@ -4,8 +4,7 @@ use Rattle.records.specs.declared.Record.{Record}
 use Rattle.records.specs.declared.Item.{Item}
 use Rattle.text.specs.Csv.{comma, cr, lf}
 use Rattle.text.specs.Files.{case_sheet, record_cells, evidence_sheet, item_cells}
-use Rattle.text.specs.Reports.{report_text}
-use Rattle.text.specs.Sheets.{ended, row_text}
+use Rattle.text.specs.Sheets.{row_text}
 
 -- a number and the byte behind it
 abbrev pub cell : ℕ → ℕ → List ℕ
@@ -29,12 +28,3 @@ item-text i = simp append_assoc
 
 pub item-length : (i : Item) → length (row_text evidence_sheet.columns (item_cells i)) ≡ length (decimal i.thread) + length (decimal i.place) + length (decimal i.count) + 6
 item-length i = simp length-append (omega arith)
-
-abbrev pub report_pieces : List ℕ → List ℕ → ℕ → ℕ → List ℕ
-report_pieces header front a b = ended header ++ (front ++ comma ∷ []) ++ cell a comma ++ cell b cr ++ lf ∷ []
-
-pub report_text_lem : (header front : List ℕ) (a b : ℕ) → report_pieces header front a b ≡ report_text header front a b
-report_text_lem header front a b = simp append_assoc
-
-pub report_length : (header front : List ℕ) (a b : ℕ) → length (report_text header front a b) ≡ length header + length front + length (decimal a) + length (decimal b) + 6
-report_length header front a b = simp length-append (omega arith)

@@ -1,16 +1,13 @@
 -- Loops that measure rows and write their text, one row after the other.
-use Rattle.std.proofs.Common.{◌≡◌, ℕ, ◌+◌, ◌<◌, ◌≤◌, Bool, true, false, cond, ◌&&◌, ltb, List, [], ◌∷◌, ◌++◌, map, length, get_or, take, drop, Ok, Err, sym, refl, ap, ◌∙◌, subst, append_assoc, append-nil, arith, length-append}
+use Rattle.std.proofs.Common.{◌≡◌, ℕ, ◌+◌, ◌<◌, ◌≤◌, Bool, true, false, cond, ◌&&◌, ltb, List, [], ◌∷◌, ◌++◌, map, length, get_or, take, drop, Ok, Err, sym, refl, ap, ◌∙◌, subst, append_assoc, arith, length-append}
 use Rattle.std.specs.List.{flat_map, AllByRecursion}
 use Rattle.std.proofs.ByRecursion.{All-map, All-push}
 use Rattle.std.proofs.lemmas.List.{map-append, map_more, take_more, take_all, take-append-drop, drop_more, flat_map_more, length-map, length-take-le}
-use Rattle.std.proofs.lemmas.Bool.{cond-true, cond-false, and_from, and_left, and_right, lt-ltb, le-ltb}
-use Rattle.text.specs.Csv.{cr, lf}
+use Rattle.std.proofs.lemmas.Bool.{cond-true, cond-false, and_from, and_left, and_right, le-ltb}
 use Rattle.records.specs.Refusals.{Refusal, refusal}
 use Rattle.text.specs.Sheets.{Sheet, Fit, ended, row_text, text_of, all_known, rows_known}
-use Rattle.text.specs.Reading.{at_front}
-use Rattle.text.specs.Writing.{measured, fitting, writing, placed}
+use Rattle.text.specs.Writing.{measured, fitting, writing}
 use Rattle.text.proofs.Apart.{cond_ok, cond_err}
-use Rattle.text.proofs.Places.{placed-more, placed-front, placed-over}
 use Rattle.text.proofs.RoundTrip.{Made, text-short}
 
 -- ── Letters ──
@@ -39,22 +36,23 @@ module _ {X : Type 0} (sh : Sheet) (cells : X → List ℕ) (rows : List X) wher
   abbrev pub Front : ℕ → List ℕ
   Front i = text_of sh (map cells (take i rows))
 
+  -- and of these rows without the header
+  abbrev pub Lines : ℕ → List ℕ
+  Lines i = flat_map (row_text sh.columns) (map cells (take i rows))
+
   abbrev pub Fits : List X → Type 0
   Fits xs = AllByRecursion (λ x. Fit sh.columns (cells x)) xs
-
-  pub front-none : length (Front 0) ≡ length sh.header + 2
-  front-none = omega (arith, length-append (ended sh.header) [], length-append sh.header (cr ∷ lf ∷ []))
-
-  pub front-header : Front 0 ≡ ended sh.header
-  front-header = append-nil (ended sh.header)
 
   pub front-all : (i : ℕ) → length rows ≤ i → Front i ≡ text_of sh (map cells rows)
   front-all i l = ap (λ xs. text_of sh (map cells xs)) (take_all i rows l)
 
+  pub lines-more : (i : ℕ) (x : X) → i < length rows → x ≡ get_or rows i x → Lines (i + 1) ≡ Lines i ++ row_text sh.columns (cells x)
+  lines-more i x l is =
+      ap (flat_map (row_text sh.columns)) (map_more cells rows i x l ∙ ap (λ y. map cells (take i rows) ++ cells y ∷ []) (sym is))
+      ∙ sym (flat_map_more (row_text sh.columns) [] (map cells (take i rows)) (cells x))
+
   pub front-more : (i : ℕ) (x : X) → i < length rows → x ≡ get_or rows i x → Front (i + 1) ≡ Front i ++ row_text sh.columns (cells x)
-  front-more i x l is =
-      ap (text_of sh) (map_more cells rows i x l ∙ ap (λ y. map cells (take i rows) ++ cells y ∷ []) (sym is))
-      ∙ sym (flat_map_more (row_text sh.columns) (ended sh.header) (map cells (take i rows)) (cells x))
+  front-more i x l is = ap (λ t. ended sh.header ++ t) (lines-more i x l is) ∙ sym (append_assoc (ended sh.header) (Lines i) (row_text sh.columns (cells x)))
 
   pub front_le : (i : ℕ) → length (Front i) ≤ length (text_of sh (map cells rows))
   front_le i =
@@ -85,36 +83,11 @@ module _ {X : Type 0} (sh : Sheet) (cells : X → List ℕ) (rows : List X) wher
   all-measured i n l e h =
       ap (λ m. Ok m) (e ∙ ap length (front-all i l)) ∙ sym (cond-true (rows_known sh (map cells rows)) _ _ (known-all (subst Fits (take_all i rows l) h)))
 
-  -- ── What stands in the bytes ──
-  pub placed_row : (s t u : List ℕ) (i at : ℕ) (x : X) → i < length rows → x ≡ get_or rows i x → length (text_of sh (map cells rows)) ≤ length s → at ≡ length (Front i) → t ≡ placed s 0 (Front i) → u ≡ placed t at (row_text sh.columns (cells x)) → u ≡ placed s 0 (Front (i + 1))
-  placed_row s t u i at x l is room ends before now =
-      let more = front-more i x l is in
-      now ∙ ap (λ v. placed v at (row_text sh.columns (cells x))) before
-      ∙ placed-more s 0 (Front i) (row_text sh.columns (cells x)) at (omega arith) (omega (arith, ap length more, length-append (Front i) (row_text sh.columns (cells x)), front_le (i + 1)))
-      ∙ ap (placed s 0) (sym more)
-
-  -- the header stood there when the rows were begun
-  pub placed_first : (s t : List ℕ) → t ≡ placed s 0 (ended sh.header) → t ≡ placed t 0 (Front 0)
-  placed_first s t is =
-      let h : t ≡ placed s 0 (Front 0) = is ∙ ap (placed s 0) (sym front-header) in
-      h ∙ sym (placed-over s (Front 0) (Front 0) (omega arith)) ∙ ap (λ u. placed u 0 (Front 0)) (sym h)
-
-  pub placed-all : (s t u : List ℕ) (i : ℕ) → length rows ≤ i → t ≡ placed s 0 (ended sh.header) → u ≡ placed t 0 (Front i) → u ≡ at_front (text_of sh (map cells rows)) s
-  placed-all s t u i l before now =
-      let text = text_of sh (map cells rows) in
-      now ∙ (λ j. placed ((before ∙ ap (placed s 0) (sym front-header)) j) 0 (front-all i l j)) ∙ placed-over s (Front 0) text (front_le 0) ∙ placed-front s text
-
 -- ── What the writing answers ──
-pub fits_not : (text : List ℕ) (room : ℕ) → room < length text → Err (refusal 6 0) ≡ fitting text room
-fits_not text room l = sym (cond-true (ltb room (length text)) _ _ (lt-ltb _ _ l))
-
 pub fits_all : (text : List ℕ) (room n : ℕ) → n ≡ length text → length text ≤ room → Ok n ≡ fitting text room
 fits_all text room n is l = ap (λ m. Ok m) is ∙ sym (cond-false (ltb room (length text)) _ _ (le-ltb _ _ l))
 
 module _ (sh : Sheet) (rows : List (List ℕ)) (room : ℕ) where
-  pub writes-many : sh.most < length rows → Err (refusal 4 0) ≡ writing sh rows room
-  writes-many l = sym (cond-true (ltb sh.most (length rows)) _ _ (lt-ltb _ _ l))
-
   module _ (few : length rows ≤ sh.most) where
     looks : writing sh rows room ≡ cond (rows_known sh rows) (fitting (text_of sh rows) room) (Err (refusal 3 0))
     looks = cond-false (ltb sh.most (length rows)) _ _ (le-ltb _ _ few)
@@ -130,9 +103,6 @@ module _ (sh : Sheet) (rows : List (List ℕ)) (room : ℕ) where
 
       known : writing sh rows room ≡ fitting (text_of sh rows) room
       known = looks ∙ cond-true (rows_known sh rows) _ _ (cond_ok (rows_known sh rows) (length (text_of sh rows)) n (refusal 3 0) h).0
-
-      pub writes_short : room < n → Err (refusal 6 0) ≡ writing sh rows room
-      writes_short l = fits_not (text_of sh rows) room (omega (arith, size_is)) ∙ sym known
 
       pub writes-all : n ≤ room → Ok n ≡ writing sh rows room
       writes-all l = fits_all (text_of sh rows) room n size_is (omega (arith, size_is)) ∙ sym known

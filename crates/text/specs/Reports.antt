@@ -1,9 +1,24 @@
--- A file of one row, whose front its writer has made.
-use Rattle.std.specs.Prelude.{ℕ, List, [], ◌∷◌, ◌++◌, decimal}
+-- A file of one row, whose fields are words and numbers.
+use Rattle.std.specs.Prelude.{◌≡◌, ℕ, List, ◌∷◌, ◌++◌, map, decimal}
+use Rattle.std.proofs.Common.{sym, ap, append_assoc}
+use Rattle.text.specs.declared.report.Cell.{Cell}
+use Rattle.text.specs.declared.report.Cell.TheVariants.{Word, Number}
 use Rattle.text.specs.Csv.{comma, join}
 use Rattle.text.specs.Sheets.{ended}
 pub use Rattle.text.specs.Writing.{fitting}
 
--- a file of one row that begins with these bytes and ends with two numbers
-abbrev pub report_text : List ℕ → List ℕ → ℕ → ℕ → List ℕ
-report_text header front a b = ended header ++ ended (join comma (front ∷ decimal a ∷ decimal b ∷ []))
+-- a word is written as it is, a number in decimal digits
+abbrev pub cell_bytes : Cell → List ℕ
+cell_bytes (Word s) = s.now
+cell_bytes (Number n) = decimal n
+
+-- a header's line, and a line of these fields
+abbrev pub one_row_text : List ℕ → List (List ℕ) → List ℕ
+one_row_text header fields = ended header ++ ended (join comma fields)
+
+abbrev pub report_text : List ℕ → List Cell → List ℕ
+report_text header row = one_row_text header (map cell_bytes row)
+
+-- two fields are as good as one that has the comma between them
+pub two_fields : (header a b c : List ℕ) (others : List (List ℕ)) → one_row_text header (a ∷ b ∷ c ∷ others) ≡ one_row_text header ((a ++ comma ∷ b) ∷ c ∷ others)
+two_fields header a b c others = ap (λ line. ended header ++ ended line) (sym (append_assoc a (comma ∷ b) (comma ∷ join comma (c ∷ others))))

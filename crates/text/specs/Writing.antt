@@ -1,6 +1,7 @@
 -- What writing answers, and what the caller's bytes are then.
 use Rattle.std.specs.Prelude.{◌≡◌, ℕ, ◌+◌, ◌≤◌, cond, List, ◌++◌, length, take, drop, Ok, Err, Result, nat_lt}
 use Rattle.records.specs.Refusals.{Refusal, refusal}
+use Rattle.text.specs.declared.put.Writer.{Writer}
 use Rattle.text.specs.Reading.{reading, answer_of, at_front, filled}
 use Rattle.text.specs.Sheets.{Sheet, text_of, rows_known}
 
@@ -34,3 +35,14 @@ ReadsAs {X} sh row text xs =
 -- bytes after ds was written over them from a place on
 abbrev pub placed : List ℕ → ℕ → List ℕ → List ℕ
 placed s at ds = take at s ++ ds ++ drop (at + length ds) s
+
+-- these bytes have room behind what a writer has written
+abbrev pub HasRoom : Writer → List ℕ → Type 0
+HasRoom w text = w.end + length text ≤ length w.out.now
+
+-- a writer wrote these bytes behind what it had written, and is still over the same bytes of its caller
+pub record Wrote (before after : Writer) (text : List ℕ) : Type 0 where
+  pub bytes : after.out.now ≡ placed before.out.now before.end text
+  pub end : after.end ≡ before.end + length text
+  pub room : length after.out.now ≡ length before.out.now
+  pub same : after.out.ghost_name ≡ before.out.ghost_name

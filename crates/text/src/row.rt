@@ -1,21 +1,22 @@
 // A row of a file: a record of a case, or an item of evidence.
 ghost use Rattle.std.specs.Prelude.{◌≡◌, ℕ, ◌+◌, ◌≤◌, true, List, length, if◌then◌else◌, Some, None};
 ghost use Rattle.std.proofs.Math.Path.{refl};
-ghost use Rattle.text.specs.Csv.{fields};
 ghost use Rattle.text.specs.Faults.{told_by};
 ghost use Rattle.text.specs.Files.{case_sheet, record_cells, record_of, evidence_sheet, item_cells, item_of};
+ghost use Rattle.text.specs.Lines.{to_come};
 ghost use Rattle.text.specs.Reading.{cells_of};
 ghost use Rattle.text.specs.Sheets.{Sheet, row_text, all_known, all_within, well_made};
-ghost use Rattle.text.specs.Writing.{placed};
+ghost use Rattle.text.specs.Writing.{HasRoom, Wrote};
 ghost use Rattle.std.specs.Fmt as Written;
 ghost use Rattle.std.proofs.Common.{rules};
 
 use crate::TextFault;
-use crate::field::{Field, is_among};
-use crate::put::{digits, put_number_cell, put_pair};
+use crate::field::{Fields, is_among};
+use crate::put::{Writer, digits};
 use records::{Item, Record};
 
-// `cells` are the numbers in a row's columns, and `row` is the row that has them.
+// `cells` are the numbers in a row's columns, and `row` is the row that has them. `parse` and `put` serve `read` and `write`
+// alone: no other crate can make the `Fields` and the `Writer` that they take.
 pub trait Row: Copy {
     ghost sheet: { Sheet };
 
@@ -23,9 +24,8 @@ pub trait Row: Copy {
 
     ghost row: { List ℕ → Self };
 
-    // The file's first line, how many columns it has, and how many rows it may have. (A trait's method that returns a
-    // `&'static` is not covered by the checker yet, so the caller picks the lifetime.)
-    fn header<'a>() -> &'a [u8]
+    // The file's first line, how many columns it has, and how many rows it may have.
+    fn header() -> &'static [u8]
         ensures value { result.now ≡ sheet.header };
 
     fn columns() -> usize
@@ -34,26 +34,29 @@ pub trait Row: Copy {
     fn most() -> usize
         ensures value { result ≡ sheet.most };
 
-    // The row in the first fields of a line, which is the line `at` of its file.
-    fn parse(line: &[u8], at: usize) -> Result<Self, TextFault>
-        ensures value { told_by cells result ≡ cells_of at sheet.columns (fields line.now) };
+    // The row in the first fields of a line.
+    fn parse(line: Fields<'_>) -> Result<Self, TextFault>
+        ensures value { told_by cells result ≡ cells_of line.entry.line sheet.columns (to_come line.entry) };
 
     // How many bytes the row's line has; none where its letter is no letter of the file.
     fn size(&self) -> Option<usize>
         ensures value { result ≡ (if all_known sheet.columns (cells self.now) then Some (length (row_text sheet.columns (cells self.now))) else None) }
         ensures within { all_within sheet.columns (cells self.now) ≡ true };
 
-    // Writes the row's line from `at` on, and answers where it ended.
-    fn put(&self, out: &mut [u8], at: usize) -> usize
+    // Writes the row's line.
+    fn put(&self, text: &mut Writer<'_>)
         requires known { all_known sheet.columns (cells self.now) ≡ true }
-        requires room { at + length (row_text sheet.columns (cells self.now)) ≤ length out.old }
-        ensures end { result ≡ at + length (row_text sheet.columns (cells self.now)) }
-        ensures bytes { out.new ≡ placed out.old at (row_text sheet.columns (cells self.now)) };
+        requires room { HasRoom text.old (row_text sheet.columns (cells self.now)) }
+        ensures wrote { Wrote text.old text.new (row_text sheet.columns (cells self.now)) };
 
     ghost made: { well_made sheet ≡ true };
 
     ghost back: { (r : Self) → row (cells r) ≡ r };
 }
+
+const CASE_LETTERS: &[u8] = b"rwRWLUSJBE";
+
+const EVIDENCE_LETTERS: &[u8] = b"ADMO";
 
 impl Row for Record {
     ghost sheet = { case_sheet };
@@ -66,7 +69,7 @@ impl Row for Record {
 
     ghost back = { Prim.search rules };
 
-    fn header<'a>() -> &'a [u8] {
+    fn header() -> &'static [u8] {
         b"thread,letter,target,value,seen,turn"
     }
 
@@ -78,19 +81,13 @@ impl Row for Record {
         256
     }
 
-    fn parse(line: &[u8], at: usize) -> Result<Record, TextFault> {
-        let (thread, rest) = Field::cut(line);
-        let (letter, rest) = Field::cut(rest);
-        let (target, rest) = Field::cut(rest);
-        let (value, rest) = Field::cut(rest);
-        let (seen, rest) = Field::cut(rest);
-        let (turn, _) = Field::cut(rest);
-        let thread = thread.number(255, at)? as u8;
-        let letter = letter.letter(b"rwRWLUSJBE", at)?;
-        let target = target.number(255, at)? as u8;
-        let value = value.number(4_294_967_295, at)?;
-        let seen = seen.number(65_535, at)? as u16;
-        let turn = turn.number(65_535, at)? as u16;
+    fn parse(mut line: Fields<'_>) -> Result<Record, TextFault> {
+        let thread = line.number(255)? as u8;
+        let letter = line.letter(CASE_LETTERS)?;
+        let target = line.number(255)? as u8;
+        let value = line.number(4_294_967_295)?;
+        let seen = line.number(65_535)? as u16;
+        let turn = line.number(65_535)? as u16;
         Ok(Record {
             letter: char::from(letter),
             value,
@@ -102,7 +99,7 @@ impl Row for Record {
     }
 
     fn size(&self) -> Option<usize> {
-        if !is_among(self.letter as u32, b"rwRWLUSJBE") {
+        if !is_among(self.letter as u32, CASE_LETTERS) {
             return None;
         }
         let numbers = digits(self.thread as u64)
@@ -113,15 +110,14 @@ impl Row for Record {
         Some(numbers + 8)
     }
 
-    fn put(&self, out: &mut [u8], at: usize) -> usize {
-        let at = put_number_cell(out, at, self.thread as u64, b',');
-        let at = put_pair(out, at, self.letter as u8, b',');
-        let at = put_number_cell(out, at, self.target as u64, b',');
-        let at = put_number_cell(out, at, self.value as u64, b',');
-        let at = put_number_cell(out, at, self.seen as u64, b',');
-        let at = put_number_cell(out, at, self.turn as u64, b'\r');
-        out[at] = b'\n';
-        at + 1
+    fn put(&self, text: &mut Writer<'_>) {
+        text.number_cell(self.thread as u64, b',');
+        text.letter_cell(self.letter as u8, b',');
+        text.number_cell(self.target as u64, b',');
+        text.number_cell(self.value as u64, b',');
+        text.number_cell(self.seen as u64, b',');
+        text.number_cell(self.turn as u64, b'\r');
+        text.byte(b'\n');
     }
 }
 
@@ -136,7 +132,7 @@ impl Row for Item {
 
     ghost back = { Prim.search rules };
 
-    fn header<'a>() -> &'a [u8] {
+    fn header() -> &'static [u8] {
         b"item,thread,place,count"
     }
 
@@ -148,15 +144,11 @@ impl Row for Item {
         4352
     }
 
-    fn parse(line: &[u8], at: usize) -> Result<Item, TextFault> {
-        let (letter, rest) = Field::cut(line);
-        let (thread, rest) = Field::cut(rest);
-        let (place, rest) = Field::cut(rest);
-        let (count, _) = Field::cut(rest);
-        let letter = letter.letter(b"ADMO", at)?;
-        let thread = thread.number(255, at)? as u8;
-        let place = place.number(255, at)? as u8;
-        let count = count.number(255, at)? as u8;
+    fn parse(mut line: Fields<'_>) -> Result<Item, TextFault> {
+        let letter = line.letter(EVIDENCE_LETTERS)?;
+        let thread = line.number(255)? as u8;
+        let place = line.number(255)? as u8;
+        let count = line.number(255)? as u8;
         Ok(Item {
             letter,
             thread,
@@ -166,7 +158,7 @@ impl Row for Item {
     }
 
     fn size(&self) -> Option<usize> {
-        if !is_among(self.letter as u32, b"ADMO") {
+        if !is_among(self.letter as u32, EVIDENCE_LETTERS) {
             return None;
         }
         let numbers = digits(self.thread as u64)
@@ -175,12 +167,11 @@ impl Row for Item {
         Some(numbers + 6)
     }
 
-    fn put(&self, out: &mut [u8], at: usize) -> usize {
-        let at = put_pair(out, at, self.letter, b',');
-        let at = put_number_cell(out, at, self.thread as u64, b',');
-        let at = put_number_cell(out, at, self.place as u64, b',');
-        let at = put_number_cell(out, at, self.count as u64, b'\r');
-        out[at] = b'\n';
-        at + 1
+    fn put(&self, text: &mut Writer<'_>) {
+        text.letter_cell(self.letter, b',');
+        text.number_cell(self.thread as u64, b',');
+        text.number_cell(self.place as u64, b',');
+        text.number_cell(self.count as u64, b'\r');
+        text.byte(b'\n');
     }
 }

@@ -1,95 +1,83 @@
-// Whole files, read and written for any kind of row.
+// Whole files, read and written for any kind of row: cases and evidence.
 ghost use Rattle.std.specs.Prelude.{◌≡◌, ◌≤◌, map, length, take, IfOk, OnOk};
 ghost use Rattle.std.specs.List.{AllByRecursion};
-ghost use Rattle.std.specs.Str.{bytes_eq};
 ghost use Rattle.text.specs.Faults.{answered};
 ghost use Rattle.text.specs.Reading.{reading, answer_of, filled};
 ghost use Rattle.text.specs.Sheets.{Fit, text_of};
 ghost use Rattle.text.specs.Writing.{measured, writing, written, ReadsAs};
 
 use crate::TextFault;
-use crate::line::Line;
-use crate::put::put_line;
+use crate::field::Fields;
+use crate::line::Lines;
+use crate::put::Writer;
 use crate::row::Row;
 
 // The longest text that is read.
 const MOST_BYTES: usize = 65_535;
 
-// Whether two stretches hold the same bytes.
-fn same<'a>(a: &'a [u8], b: &'a [u8]) -> bool
-    ensures value { result ≡ bytes_eq a.now b.now }
-{
-    a == b
-}
-
-// Fills `rows` from its front with the rows of a text, and answers how many there are.
-pub fn read_rows<T: Row>(text: &[u8], rows: &mut [T]) -> Result<usize, TextFault>
-    ensures answer { answered result ≡ answer_of (reading T.Row.sheet (length rows.old) text.now) }
-    ensures after { rows.new ≡ filled T.Row.row (reading T.Row.sheet (length rows.old) text.now) rows.old }
-    ensures whole { IfOk result (λ n. text.now ≡ text_of T.Row.sheet (map T.Row.cells (take n rows.new))) }
+// Reads a text into the front of `rows`, and answers how many rows it has. A refusal leaves the rows of the lines before it
+// written; all else of the list stays. The text may hold any byte and is refused by number, and so is no `&str`.
+pub fn read<R: Row>(text: &[u8], rows: &mut [R]) -> Result<usize, TextFault>
+    ensures answer { answered result ≡ answer_of (reading R.sheet (length rows.old) text.now) }
+    ensures after { rows.new ≡ filled R.Row.row (reading R.sheet (length rows.old) text.now) rows.old }
+    ensures whole { IfOk result (λ n. text.now ≡ text_of R.sheet (map R.cells (take n rows.new))) }
 {
     if text.len() > MOST_BYTES {
         return Err(TextFault::TooLong);
     }
-    let Some(first) = Line::first(text) else {
-        return Err(TextFault::Shape { line: 1 });
-    };
-    if !same(first.body, T::header()) {
-        return Err(TextFault::Shape { line: 1 });
+    let mut lines = Lines::of(text);
+    match lines.next() {
+        Some(Some(first)) if first.body == R::header() => {}
+        _ => return Err(TextFault::Shape { line: 1 }),
     }
-    let room = rows.len().min(T::most());
+    let room = rows.len().min(R::most());
     let mut count = 0;
-    let mut rest = first.rest;
-    while !rest.is_empty() {
+    for next in lines {
         let line = count + 2;
-        let Some(next) = Line::first(rest) else {
-            return Err(TextFault::Shape { line });
+        let body = match next {
+            Some(next) if next.fields == R::columns() => next.body,
+            _ => return Err(TextFault::Shape { line }),
         };
-        if next.fields != T::columns() {
-            return Err(TextFault::Shape { line });
-        }
         if count == room {
             return Err(TextFault::Full { line });
         }
-        rows[count] = T::parse(next.body, line)?;
+        // By index, since behind an `iter_mut` a proof knows nothing of what the list holds.
+        rows[count] = R::parse(Fields::of(body, line))?;
         count += 1;
-        rest = next.rest;
     }
     Ok(count)
 }
 
 // How many bytes the text of rows has. Every number of a row is within its column, since its type is.
-fn measure<T: Row>(rows: &[T]) -> Result<usize, TextFault>
-    requires { length rows.now ≤ T.Row.sheet.most }
-    ensures value { answered result ≡ measured T.Row.sheet (map T.Row.cells rows.now) }
-    ensures fit { OnOk result (AllByRecursion (λ x. Fit T.Row.sheet.columns (T.Row.cells x)) rows.now) }
+fn measure<R: Row>(rows: &[R]) -> Result<usize, TextFault>
+    requires { length rows.now ≤ R.sheet.most }
+    ensures value { answered result ≡ measured R.sheet (map R.cells rows.now) }
+    ensures fit { OnOk result (AllByRecursion (λ x. Fit R.sheet.columns (R.cells x)) rows.now) }
 {
-    let mut total = T::header().len() + 2;
+    let mut total = R::header().len() + 2;
     for row in rows {
-        let Some(size) = row.size() else {
-            return Err(TextFault::UnknownLetter);
-        };
-        total += size;
+        total += row.size().ok_or(TextFault::UnknownLetter)?;
     }
     Ok(total)
 }
 
-// Writes the text of rows over the front of `out`, and answers how many bytes it has.
-pub fn write_rows<T: Row>(rows: &[T], out: &mut [u8]) -> Result<usize, TextFault>
-    ensures answer { answered result ≡ writing T.Row.sheet (map T.Row.cells rows.now) (length out.old) }
-    ensures after { out.new ≡ written (answered result) (text_of T.Row.sheet (map T.Row.cells rows.now)) out.old }
-    ensures back { OnOk result (ReadsAs T.Row.sheet T.Row.row (text_of T.Row.sheet (map T.Row.cells rows.now)) rows.now) }
+// Writes the text of rows over the front of `out`, and answers how many bytes it has. A refusal writes nothing.
+pub fn write<R: Row>(rows: &[R], out: &mut [u8]) -> Result<usize, TextFault>
+    ensures answer { answered result ≡ writing R.sheet (map R.cells rows.now) (length out.old) }
+    ensures after { out.new ≡ written (answered result) (text_of R.sheet (map R.cells rows.now)) out.old }
+    ensures back { OnOk result (ReadsAs R.sheet R.Row.row (text_of R.sheet (map R.cells rows.now)) rows.now) }
 {
-    if rows.len() > T::most() {
+    if rows.len() > R::most() {
         return Err(TextFault::TooMany);
     }
     let size = measure(rows)?;
     if size > out.len() {
         return Err(TextFault::TooShort);
     }
-    let mut at = put_line(out, T::header());
+    let mut text = Writer::new(out);
+    text.line(R::header());
     for row in rows {
-        at = row.put(out, at);
+        row.put(&mut text);
     }
     Ok(size)
 }

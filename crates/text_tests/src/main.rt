@@ -9,23 +9,14 @@ ghost use Rattle.text_tests.specs.Examples.{Examples};
 
 use records::{Item, Record};
 use std::{fs, io};
-use text::{TextFault, read_case, read_evidence, write_case, write_evidence};
+use text::{Row, TextFault};
 
-const NO_RECORD: Record = Record {
-    letter: 'B',
-    value: 0,
-    seen: 0,
-    turn: 0,
-    thread: 0,
-    target: 0,
-};
+// Lists of these lengths have room for more than a file may hold, and so have the bytes for its text.
+const RECORDS: usize = 300;
 
-const NO_ITEM: Item = Item {
-    letter: 0,
-    thread: 0,
-    place: 0,
-    count: 0,
-};
+const ITEMS: usize = 5_000;
+
+const BYTES: usize = 66_000;
 
 fn refused(rt: &HostRuntime, name: &str, fault: TextFault) -> io::Result<()> {
     let number = fault.number();
@@ -33,78 +24,52 @@ fn refused(rt: &HostRuntime, name: &str, fault: TextFault) -> io::Result<()> {
     println!(rt; "{name}: {number} at line {place}")
 }
 
-fn written(
-    rt: &HostRuntime,
-    name: &str,
-    text: &[u8],
-    bytes: &[u8],
-    count: usize,
-) -> io::Result<()> {
-    if text == bytes {
-        println!(rt; "{name}: {count}, and the same text")
-    } else {
-        println!(rt; "{name}: {count}, and another text")
-    }
-}
-
-// Reads a case into this list, writes what was read, and says what came of it.
-fn case(rt: &HostRuntime, name: &str, text: &[u8], records: &mut [Record]) -> io::Result<()> {
-    let n = match read_case(text, records) {
+// Reads a text into this list, writes what was read, and says what came of it.
+fn again<R: Row>(rt: &HostRuntime, name: &str, text: &[u8], rows: &mut [R]) -> io::Result<()> {
+    let n = match text::read(text, rows) {
         Ok(n) => n,
         Err(fault) => return refused(rt, name, fault),
     };
-    let mut bytes = [0u8; 10_000];
-    if n > records.len() {
+    let mut bytes = [0u8; BYTES];
+    if n > rows.len() {
         return Ok(());
     }
-    match write_case(&records[0..n], &mut bytes) {
-        Ok(m) if m <= 10_000 => written(rt, name, text, &bytes[0..m], n),
-        Ok(_) => Ok(()),
+    match text::write(&rows[0..n], &mut bytes) {
+        Ok(m) if m > BYTES => Ok(()),
+        Ok(m) if text == &bytes[0..m] => println!(rt; "{name}: {n}, and the same text"),
+        Ok(_) => println!(rt; "{name}: {n}, and another text"),
         Err(fault) => refused(rt, name, fault),
     }
 }
 
-fn evidence(rt: &HostRuntime, name: &str, text: &[u8]) -> io::Result<()> {
-    let mut items = [NO_ITEM; 5_000];
-    let mut bytes = [0u8; 66_000];
-    let n = match read_evidence(text, &mut items) {
-        Ok(n) => n,
-        Err(fault) => return refused(rt, name, fault),
-    };
-    if n > 5_000 {
-        return Ok(());
-    }
-    match write_evidence(&items[0..n], &mut bytes) {
-        Ok(m) if m <= 66_000 => written(rt, name, text, &bytes[0..m], n),
-        Ok(_) => Ok(()),
-        Err(fault) => refused(rt, name, fault),
-    }
-}
-
-fn case_file(rt: &HostRuntime, name: &str) -> io::Result<()> {
+fn file<R: Row>(rt: &HostRuntime, name: &str, rows: &mut [R]) -> io::Result<()> {
     let text = fs::read(rt, name)?;
-    case(rt, name, text.as_slice(), &mut [NO_RECORD; 300])
-}
-
-fn evidence_file(rt: &HostRuntime, name: &str) -> io::Result<()> {
-    let text = fs::read(rt, name)?;
-    evidence(rt, name, text.as_slice())
+    again(rt, name, text.as_slice(), rows)
 }
 
 fn files(rt: &HostRuntime) -> io::Result<()> {
-    case_file(rt, "python_case.csv")?;
-    case_file(rt, "sqlite_case.csv")?;
-    case_file(rt, "awk_case.csv")?;
-    case_file(rt, "full_case.csv")?;
-    case_file(rt, "overfull_case.csv")?;
-    case_file(rt, "python_quoted_case.csv")?;
-    case_file(rt, "python_unix_case.csv")?;
-    evidence_file(rt, "python_evidence.csv")?;
-    evidence_file(rt, "sqlite_evidence.csv")?;
-    evidence_file(rt, "full_evidence.csv")?;
-    evidence_file(rt, "overfull_evidence.csv")?;
-    evidence_file(rt, "bytes_65535.csv")?;
-    evidence_file(rt, "bytes_65536.csv")
+    for name in [
+        "python_case.csv",
+        "sqlite_case.csv",
+        "awk_case.csv",
+        "full_case.csv",
+        "overfull_case.csv",
+        "python_quoted_case.csv",
+        "python_unix_case.csv",
+    ] {
+        file(rt, name, &mut [Record::default(); RECORDS])?;
+    }
+    for name in [
+        "python_evidence.csv",
+        "sqlite_evidence.csv",
+        "full_evidence.csv",
+        "overfull_evidence.csv",
+        "bytes_65535.csv",
+        "bytes_65536.csv",
+    ] {
+        file(rt, name, &mut [Item::default(); ITEMS])?;
+    }
+    Ok(())
 }
 
 // Wrong lines behind the header of a case: what is wrong, and the lines.
@@ -148,87 +113,78 @@ fn behind(rt: &HostRuntime, name: &str, rest: &[u8], records: &mut [Record]) -> 
     let mut text = Vec::new(rt.alloc());
     text.extend_from_slice(b"thread,letter,target,value,seen,turn\r\n")?;
     text.extend_from_slice(rest)?;
-    case(rt, name, text.as_slice(), records)
+    again(rt, name, text.as_slice(), records)
 }
 
 fn wrong(rt: &HostRuntime) -> io::Result<()> {
     for (name, rest) in WRONG {
-        behind(rt, name, rest, &mut [NO_RECORD; 300])?;
+        behind(rt, name, rest, &mut [Record::default(); RECORDS])?;
     }
     Ok(())
 }
 
 // Headers, a list that is full, and evidence.
 fn others(rt: &HostRuntime) -> io::Result<()> {
-    case(rt, "empty", b"", &mut [NO_RECORD; 1])?;
-    case(
-        rt,
-        "header not ended",
-        b"thread,letter,target,value,seen,turn",
-        &mut [NO_RECORD; 1],
-    )?;
-    case(
-        rt,
-        "header of evidence",
-        b"item,thread,place,count\r\n",
-        &mut [NO_RECORD; 1],
-    )?;
-    case(
-        rt,
-        "LF only",
-        b"thread,letter,target,value,seen,turn\n",
-        &mut [NO_RECORD; 1],
-    )?;
+    let mut one = [Record::default()];
+    for (name, text) in [
+        ("empty", b"".as_slice()),
+        ("header not ended", b"thread,letter,target,value,seen,turn"),
+        ("header of evidence", b"item,thread,place,count\r\n"),
+        ("LF only", b"thread,letter,target,value,seen,turn\n"),
+    ] {
+        again(rt, name, text, &mut one)?;
+    }
     behind(rt, "no room", b"0,B,0,0,0,1\r\n", &mut [])?;
-    behind(
-        rt,
-        "full, and a wrong field",
-        b"0,B,0,0,0,1\r\n007,B,0,0,0,1\r\n",
-        &mut [NO_RECORD; 1],
-    )?;
-    behind(
-        rt,
-        "full, and a field too few",
-        b"0,B,0,0,0,1\r\n0,B,0,0,0\r\n",
-        &mut [NO_RECORD; 1],
-    )?;
-    evidence(
-        rt,
-        "letter of a case",
-        b"item,thread,place,count\r\nB,0,0,0\r\n",
-    )?;
-    evidence(
-        rt,
-        "letter, then 256",
-        b"item,thread,place,count\r\nA,0,0,256\r\n",
-    )
+    for (name, rest) in [
+        (
+            "full, and a wrong field",
+            b"0,B,0,0,0,1\r\n007,B,0,0,0,1\r\n".as_slice(),
+        ),
+        ("full, and a field too few", b"0,B,0,0,0,1\r\n0,B,0,0,0\r\n"),
+    ] {
+        behind(rt, name, rest, &mut one)?;
+    }
+    for (name, text) in [
+        (
+            "letter of a case",
+            b"item,thread,place,count\r\nB,0,0,0\r\n".as_slice(),
+        ),
+        (
+            "letter, then 256",
+            b"item,thread,place,count\r\nA,0,0,256\r\n",
+        ),
+    ] {
+        again(rt, name, text, &mut [Item::default(); ITEMS])?;
+    }
+    Ok(())
 }
 
-// What writing refuses: the number alone, since no line is meant.
+// The number of the refusal with which a case is written, and 0 where it is written: no line is meant.
+fn refusal(records: &[Record], bytes: &mut [u8]) -> u8 {
+    text::write(records, bytes).map_or_else(|fault| fault.number(), |_| 0)
+}
+
+// What writing refuses.
 fn writings(rt: &HostRuntime) -> io::Result<()> {
     let mut bytes = [7u8; 49];
+    let plain = Record::default();
+    let begun = Record {
+        letter: 'B',
+        ..plain
+    };
     let strange = Record {
         letter: 'x',
-        ..NO_RECORD
+        ..plain
     };
-    let fault = match write_case(&[NO_RECORD; 257], &mut bytes) {
-        Ok(_) => 0,
-        Err(f) => f.number(),
-    };
+    let fault = refusal(&[begun; 257], &mut bytes);
     println!(rt; "257 records: {fault}")?;
-    let fault = match write_case(&[NO_RECORD, strange], &mut bytes) {
-        Ok(_) => 0,
-        Err(f) => f.number(),
-    };
+    let fault = refusal(&[begun, strange], &mut bytes);
     println!(rt; "unknown letter: {fault}")?;
-    let fault = match write_case(&[NO_RECORD, NO_RECORD], &mut bytes) {
-        Ok(_) => 0,
-        Err(f) => f.number(),
-    };
+    let fault = refusal(&[begun, begun], &mut bytes);
     println!(rt; "49 bytes for 64: {fault}")?;
     let untouched = bytes == [7u8; 49];
     println!(rt; "nothing written: {untouched}")?;
-    match write_case(&[], &mut bytes) {
+    match text::write::<Record>(&[], &mut bytes) {
         Ok(n) => println!(rt; "no records: {n} bytes"),
         Err(f) => refused(rt, "no records", f),
     }

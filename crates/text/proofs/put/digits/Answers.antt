@@ -1,19 +1,14 @@
-use Rattle.std.proofs.Common.{length, ap, arith}
+use Rattle.std.proofs.Common.{length, sym, ap, arith}
 use Rattle.std.proofs.lemmas.Fmt.{decimal_digit, length-decimal-le}
-use Rattle.text.proofs.Places.{length-step}
+use Rattle.text.proofs.Numerals.{length-by_power}
 use Rattle.text.proofs.put.digits.Goals as goal
 
-pub overflow_add-count : goal.overflow_add-count
-overflow_add-count c = record { fits = omega (arith, length-decimal-le 20 c.args.n (omega arith) (omega arith) (omega arith)) }
+pub returns-in-Some-clause-value : goal.returns-in-Some-clause-value
+returns-in-Some-clause-value c = sym (length-by_power c.in-Some.log c.args.n c.in-Some.ensures.power_le c.in-Some.ensures.next_power_gt (omega arith))
 
-pub loop-rest-preserved : goal.loop-rest-preserved
-loop-rest-preserved c = (omega arith, omega (arith, length-step c.loop-rest.rest (omega arith) (omega arith)))
+pub returns-in-Some-clause-short : goal.returns-in-Some-clause-short
+returns-in-Some-clause-short c = λ below.
+    omega (arith, length-by_power c.in-Some.log c.args.n c.in-Some.ensures.power_le c.in-Some.ensures.next_power_gt (omega arith), length-decimal-le 10 c.args.n (omega arith) (omega arith) (omega arith))
 
-pub returns : goal.returns
-returns c =
-    let d = ap length (decimal_digit c.loop-rest.rest (omega arith)) in
-    record {
-      value = omega arith;
-      few = omega (arith, length-decimal-le 20 c.args.n (omega arith) (omega arith) (omega arith));
-      short = λ below. omega (arith, length-decimal-le 10 c.args.n (omega arith) (omega arith) (omega arith));
-    }
+pub returns-in-None-clause-value : goal.returns-in-None-clause-value
+returns-in-None-clause-value c = sym (ap length (decimal_digit c.args.n (omega (arith, c.in-None.ensures.none))))

@@ -1,11 +1,12 @@
-use Rattle.std.proofs.Common.{◌≡◌, ◌+◌, ◌-◌, eqb, length, take, drop, Some, sym, ap, ◌∙◌, arith, length-drop}
+use Rattle.std.proofs.Common.{◌≡◌, ◌+◌, ◌-◌, ◌<◌, eqb, length, get_or, take, drop, sym, ap, ◌∙◌, arith, length-drop}
 use Rattle.std.proofs.lemmas.List.{length-take-le}
 use Rattle.std.proofs.lemmas.List.Sums.{count_by-le-length}
+use Rattle.std.proofs.lemmas.Bool.Decides.{nat_tests}
 use Rattle.text.specs.Csv.{comma, cr, lf, lines}
-use Rattle.text.proofs.Scans.{free_more, count_yes, count_no, rest_of_lem, lines_at, line-found, line_lf, line_cr, line-last, line_open}
+use Rattle.text.proofs.Scans.{free_more, count_yes, count_no, rest_of_lem, behind_at, rest_behind, lines_at, line-found, line_lf, line_open, cr_broken}
 use Rattle.text.proofs.Splits.{length-split}
 use Rattle.text.proofs.line.Line.first.Goals as goal
-use Rattle.text.proofs.line.Line.first.Goals.{in-44, in_default, else-i-text-via-then-i-text+else-text-i-eq10, else-i-text-via-else-i-text}
+use Rattle.text.proofs.line.Line.first.Goals.{in-44, in_default, in_default-2-via-then-text-i-lt2, in_default-2-via-else-text-i-lt2+in-13+in_default-1, in_default-2-via-else-text-i-lt2+in_default-1}
 
 pub overflow_add-fields : goal.overflow_add-fields
 overflow_add-fields c =
@@ -14,30 +15,38 @@ overflow_add-fields c =
 pub returns-in-10 : goal.returns-in-10
 returns-in-10 c = record { value = sym (line_lf c.args.text.now c.loop-i.i c.loop-i.invariant.0 c.loop-i.invariant.1 c.loop-i-test.true c.in-10.is); off = tt }
 
-pub returns-then-text-i-eq10 : goal.returns-then-text-i-eq10
-returns-then-text-i-eq10 c =
-    let s = c.args.text.now in let i = c.loop-i.i in
-    let z : i - 0 ≡ i = omega arith in
-    let body = ap (λ k. take k s) z in
+pub returns-in-13 : goal.returns-in-13
+returns-in-13 c =
+    let s = c.args.text.now in let i = c.loop-i.i in let behind = take (length s - i) (drop i s) in
+    let is : behind ≡ drop i s = rest_of_lem s i in
+    let second : get_or behind 1 0 ≡ 10 = grind (arith, nat_tests) in
+    let follows : get_or s (i + 1) 0 ≡ 10 = sym (behind_at s behind i 1 (i + 1) is (omega arith)) ∙ second in
+    let more : i + 1 < length s = omega (arith, c.in-13-2.len_at_least, ap length is, length-drop i s) in
+    let rest = rest_behind s behind i is in
     record {
-      value = ap (λ t. Some t) body ∙ sym (line-found s i c.loop-i.invariant.0 c.loop-i.invariant.1 c.if-i-text.true c.in-13.is c.if-text-i-eq10.true);
+      value = sym (line-found s i c.loop-i.invariant.0 c.loop-i.invariant.1 more c.in-13.is follows);
       off =
           record {
-            count = c.loop-i.invariant.2 ∙ sym (length-split comma (take i s)) ∙ ap (λ t. length (Rattle.text.specs.Csv.fields t)) (sym body);
-            after = ap lines (rest_of_lem s (i + 2)) ∙ sym (ap (drop 1) (lines_at s i c.loop-i.invariant.0 c.loop-i.invariant.1 c.if-i-text.true c.in-13.is c.if-text-i-eq10.true));
-            less = omega (arith, ap length (rest_of_lem s (i + 2)), length-drop (i + 2) s);
+            count = c.loop-i.invariant.2 ∙ sym (length-split comma (take i s));
+            after = ap lines rest ∙ sym (ap (drop 1) (lines_at s i c.loop-i.invariant.0 c.loop-i.invariant.1 more c.in-13.is follows));
+            less = omega (arith, ap length rest, length-drop (i + 2) s);
           };
     }
 
-pub returns-in-13 : goal.returns-in-13
-returns-in-13 c =
-    let s = c.args.text.now in let i = c.loop-i.i in
+pub returns-in_default-2 : goal.returns-in_default-2
+returns-in_default-2 c =
+    let s = c.args.text.now in let i = c.loop-i.i in let behind = take (length s - i) (drop i s) in
+    let is : behind ≡ drop i s = rest_of_lem s i in
     record {
-      value =
-          elim c.else-i-text.branch [
-            | else-i-text-via-then-i-text+else-text-i-eq10 w ↦ sym (line_cr s i c.loop-i.invariant.0 c.loop-i.invariant.1 w.if-i-text.true c.in-13.is w.if-text-i-eq10.false)
-            | else-i-text-via-else-i-text w ↦ sym (line-last s i c.loop-i.invariant.0 c.loop-i.invariant.1 w.if-i-text.false c.loop-i-test.true c.in-13.is)
-          ];
+      value = sym (cr_broken s i c.loop-i.invariant.0 c.loop-i.invariant.1 c.in-13.is c.loop-i-test.true (λ more follows.
+          let first : get_or behind 0 0 ≡ 13 = behind_at s behind i 0 i is (omega arith) ∙ c.in-13.is in
+          let second : get_or behind 1 0 ≡ 10 = behind_at s behind i 1 (i + 1) is (omega arith) ∙ follows in
+          let two : 1 < length behind = omega (arith, ap length is, length-drop i s) in
+          elim c.in_default-2.branch [
+            | in_default-2-via-then-text-i-lt2 w ↦ absurd (grind (arith, nat_tests))
+            | in_default-2-via-else-text-i-lt2+in-13+in_default-1 w ↦ absurd (grind (arith, nat_tests))
+            | in_default-2-via-else-text-i-lt2+in_default-1 w ↦ absurd (grind (arith, nat_tests))
+          ]));
       off = tt;
     }
 

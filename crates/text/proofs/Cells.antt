@@ -1,8 +1,8 @@
 -- Cells and their texts: each is read back, and what is read is the text of what was read.
-use Rattle.std.proofs.Common.{◌≡◌, ℕ, ◌<◌, true, false, cond, ◌&&◌, eqb, ltb, leb, List, [], ◌∷◌, length, get_or, Some, None, Ok, Err, decimal, Option, Result, sym, refl, ap, ◌∙◌, ⊎_elim, arith}
+use Rattle.std.proofs.Common.{◌≡◌, ℕ, true, false, cond, ◌&&◌, eqb, ltb, leb, List, [], ◌∷◌, length, get_or, Some, None, Ok, Err, decimal, Option, Result, sym, refl, ap, ◌∙◌, ⊎_elim, arith}
 use Rattle.std.specs.Char.{is_ascii_digit, is_ascii_alphabetic}
 use Rattle.std.specs.Str.{all_ascii_digits}
-use Rattle.std.proofs.lemmas.Bool.{cond-true, cond-false, cond_both, cases_Bool, and_from, and_parts, and_left, and_right, leb-true, lt-ltb, lt-leb, ne_eqb, false≢true}
+use Rattle.std.proofs.lemmas.Bool.{cond-true, cond-false, cond_both, cases_Bool, and_parts, and_left, and_right, leb-true, lt-leb, ne_eqb, false≢true}
 use Rattle.records.specs.Letters.{among}
 use Rattle.text.specs.Csv.{rest_of}
 use Rattle.records.specs.Refusals.{Refusal, refusal}
@@ -13,13 +13,7 @@ use Rattle.text.proofs.Apart.{none≢some, some_same, err≢ok, ok_same}
 use Rattle.text.proofs.Letters.{letter-high, not_among}
 use Rattle.text.proofs.Numerals.{numeral-decimal, decimal-numeral, none-plain}
 
--- ── A stretch that is told as a number or a letter, or as neither ──
-pub told_number : (s : List ℕ) → 0 < length s → all_ascii_digits s ≡ true → number s ≡ kind_of s
-told_number s l h = sym (cond-true (ltb 0 (length s) && all_ascii_digits s) (number s) _ (and_from _ _ (lt-ltb 0 (length s) l) h))
-
-pub told_neither : (s : List ℕ) → (ltb 0 (length s) && all_ascii_digits s) ≡ false → (eqb (length s) 1 && is_ascii_alphabetic (get_or s 0 0)) ≡ false → neither s ≡ kind_of s
-told_neither s n l = sym (cond-false (ltb 0 (length s) && all_ascii_digits s) (number s) _ n ∙ cond-false (eqb (length s) 1 && is_ascii_alphabetic (get_or s 0 0)) (letter s) (neither s) l)
-
+-- ── A stretch that is told as a number or a letter ──
 number-told : (most : ℕ) (s : List ℕ) → number_in most (kind_of s) ≡ numeral most s
 number-told most s = ⊎_elim digits others (cases_Bool (ltb 0 (length s) && all_ascii_digits s))
   where

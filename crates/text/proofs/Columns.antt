@@ -1,5 +1,5 @@
 -- The fields of a line read from the left, and a row written from the left.
-use Rattle.std.proofs.Common.{◌≡◌, ℕ, true, cond, List, [], ◌∷◌, ◌++◌, length, Some, None, Ok, Err, Result, sym, refl, ap, ◌∙◌, arith, length-append}
+use Rattle.std.proofs.Common.{◌≡◌, ℕ, true, cond, List, ◌∷◌, ◌++◌, length, Some, None, Ok, Err, Result, sym, ap, ◌∙◌, arith, length-append}
 use Rattle.std.proofs.lemmas.Bool.{cond-true}
 use Rattle.text.specs.Csv.{first_of, rest_of}
 use Rattle.records.specs.Refusals.{Refusal}
@@ -9,7 +9,7 @@ use Rattle.text.specs.declared.field.Fields.{Fields}
 use Rattle.text.specs.declared.put.Writer.{Writer}
 use Rattle.text.specs.Lines.{to_come, OneRead}
 use Rattle.text.specs.Writing.{placed, HasRoom, Wrote}
-use Rattle.text.proofs.Places.{placed-none, placed-more, placed-front}
+use Rattle.text.proofs.Places.{placed-more, placed-front}
 
 -- ── Reading ──
 -- a field is read for the column c, and those behind it for the columns cs
@@ -39,9 +39,6 @@ wrote-then {a} {b} {c} {s} {t} v w room =
       room = w.room ∙ v.room;
       same = w.same ∙ v.same;
     }
-
-pub wrote-none : (a : Writer) → Wrote a a []
-wrote-none a = record { bytes = placed-none a.out.now a.end; end = omega arith; room = refl; same = refl }
 
 -- all that was written stands in front
 pub wrote-front : {a b : Writer} {text : List ℕ} (out : List ℕ) → a.out.now ≡ out → a.end ≡ 0 → Wrote a b text → b.out.now ≡ at_front text out

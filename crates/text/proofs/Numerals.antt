@@ -3,7 +3,6 @@ use Rattle.std.proofs.Common.{◌≡◌, ℕ, zero, suc, ◌+◌, ◌-◌, ◌*�
 use Rattle.std.specs.Str.Parse.{digits_value, digits_value_after}
 use Rattle.std.specs.Int.{IsInRange, IsOutOfRange}
 use Rattle.std.specs.Char.{digit_value as digitValue, is_ascii_digit}
-use Rattle.std.specs.List.{list_all}
 use Rattle.std.specs.Str.{all_ascii_digits}
 use Rattle.std.proofs.lemmas.Bool.{cond-true, cond-false, cases_Bool, cases_eq, cases_lt, and_from, and_parts, and_left, and_right, and_cases, or_cases, or_left, or_right, not-true, not_from_false, ltb-true, leb-true, eqb-true, eqb-false, lt-ltb, le-leb, lt-leb, eq-eqb, ne_eqb}
 use Rattle.std.proofs.lemmas.Bool.Decides.{nat_tests}
@@ -57,10 +56,6 @@ decimal-width n most le fits =
     length-decimal-le (length (decimal most)) n (decimal_nonempty most fits) (omega arith) (omega arith)
 
 -- ── A loop over the digits ──
-pub digits_all : (s : List ℕ) → all_ascii_digits s ≡ list_all is_ascii_digit s
-digits_all [] = refl
-digits_all (c ∷ cs) = ap (λ b. is_ascii_digit c && b) (digits_all cs)
-
 after_ge : (n : ℕ) (ds : List ℕ) → n ≤ digits_value_after 10 n ds
 after_ge n [] = omega arith
 after_ge n (c ∷ cs) = let h = after_ge (n * 10 + digitValue c) cs in omega arith

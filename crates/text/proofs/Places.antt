@@ -1,12 +1,7 @@
 -- Bytes written one after the other.
-use Rattle.std.proofs.Common.{◌≡◌, ℕ, ◌+◌, ◌≤◌, List, [], ◌++◌, length, take, drop, sym, ap, ◌∙◌, append_assoc, append-nil, arith, length-append}
-use Rattle.std.proofs.lemmas.List.{take-append-drop, length-take-le, take_at, drop_at, drop-drop}
+use Rattle.std.proofs.Common.{◌≡◌, ℕ, ◌+◌, ◌≤◌, List, ◌++◌, length, take, drop, sym, ap, ◌∙◌, append_assoc, arith, length-append}
+use Rattle.std.proofs.lemmas.List.{length-take-le, take_at, drop_at, drop-drop}
 use Rattle.text.specs.Writing.{placed}
-
-pub placed-none : (s : List ℕ) (at : ℕ) → s ≡ placed s at []
-placed-none s at =
-    let z : at + 0 ≡ at = omega arith in
-    sym (ap (λ l. l ++ drop (at + 0) s) (append-nil (take at s)) ∙ ap (λ k. take at s ++ drop k s) z ∙ take-append-drop at s)
 
 -- more bytes behind those that were written
 pub placed-more : (s : List ℕ) (at : ℕ) (a b : List ℕ) (e : ℕ) → e ≡ at + length a → at + length a + length b ≤ length s → placed (placed s at a) e b ≡ placed s at (a ++ b)

@@ -1,68 +1,35 @@
 -- What a scan of a text has found at a byte, or at its end.
-use Rattle.std.proofs.Common.{◌≡◌, ℕ, ◌+◌, ◌-◌, ◌<◌, ◌≤◌, Bool, false, ◌||◌, eqb, ltb, List, [], ◌∷◌, ◌++◌, length, get_or, take, drop, Some, None, sym, refl, ap, ◌∙◌, ⊎_elim, ◌⊎◌, inl, inr, append_assoc, arith}
-use Rattle.std.specs.List.{position, position_or_len}
-use Rattle.std.proofs.ByRecursion.{All-append, All-from_get_or}
-use Rattle.std.proofs.lemmas.List.Quantifiers.{position-Some}
-use Rattle.std.proofs.lemmas.List.{get_or-take, get_or-drop, drop-drop, length-take-le, take-append-drop, drop_more, drop_all, take_rest}
-use Rattle.std.proofs.lemmas.List.Sums.{fails_before_first}
-use Rattle.std.proofs.lemmas.Bool.{cond-true, cases_Bool, cases_lt, or_cases, or_parts, ltb-false, ne_eqb, eqb-true}
+use Rattle.std.proofs.Common.{◌≡◌, ℕ, ◌+◌, ◌-◌, ◌<◌, ◌≤◌, false, eqb, List, [], ◌∷◌, ◌++◌, length, get_or, take, drop, Some, None, count_by, sym, refl, ap, ◌∙◌, ⊎_elim, subst, append_assoc, arith}
+use Rattle.std.proofs.ByRecursion.{All-append, All-more}
+use Rattle.std.proofs.lemmas.List.{take_all, get_or-drop, drop-drop, take-append-drop, drop_more, drop_all, take_rest}
+use Rattle.std.proofs.lemmas.List.Sums.{count_by_more_yes, count_by_more_no}
+use Rattle.std.proofs.lemmas.Bool.{cases_lt, ne_eqb, eq-eqb}
 use Rattle.text.specs.Csv.{comma, cr, lf, on_first, split, fields, first_of, rest_of, lines, first_line}
-use Rattle.text.proofs.Apart.{none≢some}
 use Rattle.text.proofs.Splits.{Free, cut, split-free, split-cut, split_on, split-ahead, line_at, line_not, line-free}
 
--- ── The first byte that passes a test ──
--- none of the bytes before it has the code c, if that passes
-free_before : (p : ℕ → Bool) (c : ℕ) → ((x : ℕ) → p x ≡ false → eqb x c ≡ false) → (s : List ℕ) (i : ℕ) → i ≤ length s → ((k : ℕ) → k < i → p (get_or s k 0) ≡ false) → Free c (take i s)
-free_before p c t s i l h =
-    All-from_get_or (λ x. eqb x c ≡ false) (take i s) 0 (λ k lt.
-    let in' : k < i = omega (arith, length-take-le i s l) in ap (λ x. eqb x c) (get_or-take i s k 0 in') ∙ t _ (h k in'))
-
--- and none at all, where no byte passes
-free-all : (p : ℕ → Bool) (c : ℕ) → ((x : ℕ) → p x ≡ false → eqb x c ≡ false) → (s : List ℕ) → position p s ≡ None → Free c s
-free-all p c t s h =
-    ⊎_elim
-    (λ e. absurd (none≢some _ (sym h ∙ cond-true (ltb (position_or_len p s) (length s)) _ _ e)))
-    (λ e. All-from_get_or (λ x. eqb x c ≡ false) s 0 (λ k lt. t _ (fails_before_first p s k 0 (omega (arith, ltb-false _ _ e)))))
-    (cases_Bool (ltb (position_or_len p s) (length s)))
-
--- the first byte c
+-- ── The first byte c of s ──
 pub record Found (c : ℕ) (s : List ℕ) (i : ℕ) : Type 0 where
   pub inside : i < length s
   pub before : Free c (take i s)
   pub is : get_or s i 0 ≡ c
 
-pub found_at : (c : ℕ) (s : List ℕ) (i : ℕ) → position (λ x. eqb x c) s ≡ Some i → Found c s i
-found_at c s i h =
-    let p = position-Some (λ x. eqb x c) s i 0 h in
-    record { inside = p.0; before = free_before (λ x. eqb x c) c (λ x e. e) s i (omega (arith, p.0)) p.2; is = eqb-true _ _ p.1 }
-
-pub not_found : (c : ℕ) (s : List ℕ) → position (λ x. eqb x c) s ≡ None → Free c s
-not_found c s h = free-all (λ x. eqb x c) c (λ x e. e) s h
-
--- the first byte of a line's end
-abbrev pub ends : ℕ → Bool
-ends x = eqb x cr || eqb x lf
-
-pub record Ended (s : List ℕ) (i : ℕ) : Type 0 where
-  pub inside : i < length s
-  pub no_cr : Free cr (take i s)
-  pub no_lf : Free lf (take i s)
-  pub is : (get_or s i 0 ≡ cr) ⊎ (get_or s i 0 ≡ lf)
-
-pub ended_at : (s : List ℕ) (i : ℕ) → position ends s ≡ Some i → Ended s i
-ended_at s i h =
-    let p = position-Some ends s i 0 h in
-    record {
-      inside = p.0;
-      no_cr = free_before ends cr (λ x e. (or_parts (eqb x cr) (eqb x lf) e).0) s i (omega (arith, p.0)) p.2;
-      no_lf = free_before ends lf (λ x e. (or_parts (eqb x cr) (eqb x lf) e).1) s i (omega (arith, p.0)) p.2;
-      is = ⊎_elim (λ e. inl (eqb-true _ _ e)) (λ e. inr (eqb-true _ _ e)) (or_cases (eqb (get_or s i 0) cr) (eqb (get_or s i 0) lf) p.1);
-    }
+-- and none at all
+pub none_found : (c : ℕ) (s : List ℕ) (i : ℕ) → length s ≤ i → Free c (take i s) → Free c s
+none_found c s i l h = subst (Free c) (take_all i s l) h
 
 -- ── At each byte of s before the place i ──
 module _ (s : List ℕ) (i : ℕ) (l : i < length s) where
   pub around : s ≡ take i s ++ get_or s i 0 ∷ drop (i + 1) s
   around = sym (take-append-drop i s) ∙ ap (λ t. take i s ++ t) (drop_more s i 0 l)
+
+  pub free_more : (c : ℕ) → Free c (take i s) → (get_or s i 0 ≡ c → ⊥) → Free c (take (i + 1) s)
+  free_more c h ne = All-more (λ x. eqb x c ≡ false) s i 0 l h (ne_eqb _ _ ne)
+
+  pub count_yes : (c n : ℕ) → n ≡ count_by (λ x. eqb x c) (take i s) + 1 → get_or s i 0 ≡ c → n + 1 ≡ count_by (λ x. eqb x c) (take (i + 1) s) + 1
+  count_yes c n e is = omega (arith, count_by_more_yes (λ x. eqb x c) s i 0 l (eq-eqb _ _ is))
+
+  pub count_no : (c n : ℕ) → n ≡ count_by (λ x. eqb x c) (take i s) + 1 → (get_or s i 0 ≡ c → ⊥) → n ≡ count_by (λ x. eqb x c) (take (i + 1) s) + 1
+  count_no c n e ne = omega (arith, count_by_more_no (λ x. eqb x c) s i 0 l (ne_eqb _ _ ne))
 
   -- at the byte that cuts
   pub cut_at : (c : ℕ) → Free c (take i s) → get_or s i 0 ≡ c → split c s ≡ take i s ∷ split c (drop (i + 1) s)
@@ -132,13 +99,10 @@ module _ (s : List ℕ) (i : ℕ) (a : Free cr (take i s)) (b : Free lf (take i 
       let whole : s ≡ take i s ++ cr ∷ [] = around s i l ∙ (λ j. take i s ++ c j ∷ drop_all (i + 1) s e j) in
       ap first_line (ap lines whole ∙ split-free lf (take i s ++ cr ∷ []) (All-append (λ x. eqb x lf ≡ false) (take i s) (cr ∷ []) b (refl, tt)))
 
--- no end at all
-pub line_open : (s : List ℕ) → position ends s ≡ None → first_line (lines s) ≡ None
-line_open s h = ap first_line (split-free lf s (free-all ends lf (λ x e. (or_parts (eqb x cr) (eqb x lf) e).1) s h))
+  -- no end at all
+  pub line_open : length s ≤ i → first_line (lines s) ≡ None
+  line_open l = ap first_line (split-free lf s (subst (Free lf) (take_all i s l) b))
 
--- an end that is not CR LF
-pub line_broken : (s : List ℕ) (i : ℕ) → Ended s i → (get_or s i 0 ≡ cr → i + 1 < length s → get_or s (i + 1) 0 ≡ lf → ⊥) → first_line (lines s) ≡ None
-line_broken s i e no' = ⊎_elim at_cr (λ c. line_lf s i e.no_cr e.no_lf e.inside c) e.is
-  where
-    at_cr : get_or s i 0 ≡ cr → first_line (lines s) ≡ None
-    at_cr c = ⊎_elim (λ l. line_cr s i e.no_cr e.no_lf l c (no' c l)) (λ l. line-last s i e.no_cr e.no_lf l e.inside c) (cases_lt (i + 1) (length s))
+  -- CR that no LF follows
+  pub cr_broken : get_or s i 0 ≡ cr → i < length s → (i + 1 < length s → get_or s (i + 1) 0 ≡ lf → ⊥) → first_line (lines s) ≡ None
+  cr_broken c l no' = ⊎_elim (λ m. line_cr m c (no' m)) (λ e. line-last e l c) (cases_lt (i + 1) (length s))

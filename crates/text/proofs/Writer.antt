@@ -3,8 +3,7 @@ use Rattle.std.proofs.Common.{◌≡◌, ℕ, ◌+◌, ◌<◌, ◌≤◌, Bool,
 use Rattle.std.specs.List.{flat_map, AllByRecursion}
 use Rattle.std.proofs.ByRecursion.{All-map, All-push}
 use Rattle.std.proofs.lemmas.List.{map-append, map_more, take_more, take_all, take-append-drop, drop_more, flat_map_more, length-map, length-take-le}
-use Rattle.std.proofs.lemmas.Bool.{cond-true, cond-false, and_from, and_left, and_right, lt-ltb, le-ltb}
-use Rattle.text.specs.Csv.{cr, lf}
+use Rattle.std.proofs.lemmas.Bool.{cond-true, cond-false, and_from, and_left, and_right, le-ltb}
 use Rattle.records.specs.Refusals.{Refusal, refusal}
 use Rattle.text.specs.Sheets.{Sheet, Fit, ended, row_text, text_of, all_known, rows_known}
 use Rattle.text.specs.Writing.{measured, fitting, writing}
@@ -43,9 +42,6 @@ module _ {X : Type 0} (sh : Sheet) (cells : X → List ℕ) (rows : List X) wher
 
   abbrev pub Fits : List X → Type 0
   Fits xs = AllByRecursion (λ x. Fit sh.columns (cells x)) xs
-
-  pub front-none : length (Front 0) ≡ length sh.header + 2
-  front-none = omega (arith, length-append (ended sh.header) [], length-append sh.header (cr ∷ lf ∷ []))
 
   pub front-all : (i : ℕ) → length rows ≤ i → Front i ≡ text_of sh (map cells rows)
   front-all i l = ap (λ xs. text_of sh (map cells xs)) (take_all i rows l)
@@ -88,16 +84,10 @@ module _ {X : Type 0} (sh : Sheet) (cells : X → List ℕ) (rows : List X) wher
       ap (λ m. Ok m) (e ∙ ap length (front-all i l)) ∙ sym (cond-true (rows_known sh (map cells rows)) _ _ (known-all (subst Fits (take_all i rows l) h)))
 
 -- ── What the writing answers ──
-pub fits_not : (text : List ℕ) (room : ℕ) → room < length text → Err (refusal 6 0) ≡ fitting text room
-fits_not text room l = sym (cond-true (ltb room (length text)) _ _ (lt-ltb _ _ l))
-
 pub fits_all : (text : List ℕ) (room n : ℕ) → n ≡ length text → length text ≤ room → Ok n ≡ fitting text room
 fits_all text room n is l = ap (λ m. Ok m) is ∙ sym (cond-false (ltb room (length text)) _ _ (le-ltb _ _ l))
 
 module _ (sh : Sheet) (rows : List (List ℕ)) (room : ℕ) where
-  pub writes-many : sh.most < length rows → Err (refusal 4 0) ≡ writing sh rows room
-  writes-many l = sym (cond-true (ltb sh.most (length rows)) _ _ (lt-ltb _ _ l))
-
   module _ (few : length rows ≤ sh.most) where
     looks : writing sh rows room ≡ cond (rows_known sh rows) (fitting (text_of sh rows) room) (Err (refusal 3 0))
     looks = cond-false (ltb sh.most (length rows)) _ _ (le-ltb _ _ few)
@@ -113,9 +103,6 @@ module _ (sh : Sheet) (rows : List (List ℕ)) (room : ℕ) where
 
       known : writing sh rows room ≡ fitting (text_of sh rows) room
       known = looks ∙ cond-true (rows_known sh rows) _ _ (cond_ok (rows_known sh rows) (length (text_of sh rows)) n (refusal 3 0) h).0
-
-      pub writes_short : room < n → Err (refusal 6 0) ≡ writing sh rows room
-      writes_short l = fits_not (text_of sh rows) room (omega (arith, size_is)) ∙ sym known
 
       pub writes-all : n ≤ room → Ok n ≡ writing sh rows room
       writes-all l = fits_all (text_of sh rows) room n size_is (omega (arith, size_is)) ∙ sym known

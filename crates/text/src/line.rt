@@ -15,17 +15,27 @@ pub(crate) struct Line<'a> {
 
 impl<'a> Line<'a> {
     // The first line of a text; none where it is not ended by CR LF, or has a CR or LF of its own.
+    // One pass finds the end and counts the commas: `position`, and then a `count`, took longer.
     pub(crate) fn first(text: &'a [u8]) -> Option<Line<'a>>
         ensures value { option_map body_of result ≡ first_line (lines text.now) }
         ensures off { IfSome result (λ l. Off text.now l) }
     {
-        let end = text.iter().position(|b| matches!(b, b'\r' | b'\n'))?;
-        let (body, behind) = text.split_at(end);
-        let [b'\r', b'\n', rest @ ..] = behind else {
-            return None;
-        };
-        let fields = body.iter().filter(|b| **b == b',').count() + 1;
-        Some(Line { body, fields, rest })
+        let mut fields = 1;
+        for (i, b) in text.iter().enumerate() {
+            match *b {
+                b',' => fields += 1,
+                b'\n' => return None,
+                b'\r' => {
+                    let [b'\r', b'\n', rest @ ..] = &text[i..] else {
+                        return None;
+                    };
+                    let body = &text[..i];
+                    return Some(Line { body, fields, rest });
+                }
+                _ => {}
+            }
+        }
+        None
     }
 }
 

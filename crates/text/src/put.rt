@@ -60,9 +60,10 @@ impl<'a> Writer<'a> {
         requires { HasRoom self.old (decimal n) }
         ensures wrote { Wrote self.old self.new (decimal n) }
     {
-        if n >= 10 {
-            self.number(n / 10);
+        if n < 10 {
+            return self.byte(b'0' + n as u8);
         }
+        self.number(n / 10);
         self.byte(b'0' + (n % 10) as u8);
     }
 

@@ -1,7 +1,6 @@
 -- The verdict as text: a header and one row.
-use Rattle.std.specs.Prelude.{ℕ, List, [], ◌∷◌, ◌++◌, codes, decimal}
-use Rattle.text.specs.Csv.{comma, join}
-use Rattle.text.specs.Sheets.{ended}
+use Rattle.std.specs.Prelude.{ℕ, List, [], ◌∷◌, codes, decimal}
+use Rattle.text.specs.Reports.{one_row_text}
 use Rattle.verdict.specs.declared.judgement.VerdictRow.{VerdictRow}
 use Rattle.verdict.specs.declared.layer.Layer.{Layer}
 use Rattle.verdict.specs.Judging.{Judged, Allowed, Unfinished, Refused}
@@ -27,4 +26,4 @@ abbrev pub fields_of : Row → List (List ℕ)
 fields_of r = r.verdict ∷ layer_name r.layer ∷ decimal r.refusal ∷ decimal r.place ∷ []
 
 abbrev pub verdict_text : Judged → List ℕ
-verdict_text j = ended (codes "verdict,layer,refusal,place") ++ ended (join comma (fields_of (told j)))
+verdict_text j = one_row_text (codes "verdict,layer,refusal,place") (fields_of (told j))

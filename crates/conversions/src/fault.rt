@@ -46,10 +46,7 @@ impl<F: ItemFault> fmt::Display for ConversionFault<F> {
             ConversionFault::ListTooShort => {
                 f.write_str("the list has no room for any evidence of its kind")
             }
-            ConversionFault::Refused { fault, place } => {
-                let number = fault.number();
-                write!(f, "item {place} is refused with {number}")
-            }
+            ConversionFault::Refused { fault, place } => write!(f, "item {place}: {fault}"),
             ConversionFault::Unfinished => {
                 f.write_str("every item is taken, and the evidence is not complete")
             }

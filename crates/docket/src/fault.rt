@@ -89,11 +89,7 @@ impl<F: ItemFault> fmt::Display for DocketFault<F> {
         match self {
             DocketFault::Ticket(fault) => write!(f, "{fault}"),
             DocketFault::ItemRefused { fault, taken } => {
-                let number = fault.number();
-                write!(
-                    f,
-                    "the item is refused by number {number}, after {taken} were taken"
-                )
+                write!(f, "the item after {taken} taken ones: {fault}")
             }
         }
     }

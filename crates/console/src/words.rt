@@ -1,16 +1,10 @@
 // A verdict in plain words: what a refusal means, and where to look.
 use crate::options::Options;
+use docket::Verdict;
 use std::io;
 use verdict::fault::Fault;
-use verdict::judgement::Judgement;
+use verdict::judgement::{Judgement, Ruling};
 use verdict::layer::Layer;
-
-fn kind_name(layer: Layer) -> &'static str {
-    match layer {
-        Layer::Certificate => "certificate",
-        _ => "run",
-    }
-}
 
 // Record or item k stands in line k + 2 of its file.
 fn explain_refusal(rt: &HostRuntime, fault: &Fault, options: &Options) -> io::Result<()> {
@@ -40,18 +34,22 @@ fn explain_refusal(rt: &HostRuntime, fault: &Fault, options: &Options) -> io::Re
 // One line on standard error that says what the verdict means and where to look.
 pub fn explain(rt: &HostRuntime, judgement: &Judgement, options: &Options) -> io::Result<()> {
     match judgement {
-        Judgement::Allowed { layer, items } => {
-            let kind = kind_name(*layer);
-            eprintln!(rt;
-                "allowed: the {items} items are a complete {kind} of this case, so the memory model allows it"
-            )
-        }
-        Judgement::Unfinished { layer, items } => {
-            let kind = kind_name(*layer);
-            eprintln!(rt;
-                "unfinished: all {items} items were taken, but they are not a complete {kind}; this does not say that the model forbids the case"
-            )
-        }
-        Judgement::Refused(fault) => explain_refusal(rt, fault, options),
+        Ok(
+            Ruling {
+                kind,
+                verdict: Verdict::Allowed(items),
+            },
+        ) => eprintln!(rt;
+            "allowed: the {items} items are a complete {kind} of this case, so the memory model allows it"
+        ),
+        Ok(
+            Ruling {
+                kind,
+                verdict: Verdict::Unfinished(items),
+            },
+        ) => eprintln!(rt;
+            "unfinished: all {items} items were taken, but they are not a complete {kind}; this does not say that the model forbids the case"
+        ),
+        Err(fault) => explain_refusal(rt, fault, options),
     }
 }

@@ -10,6 +10,7 @@ use case::checked::CheckedCase;
 use kinds::Evidence;
 use machines::faults::ItemFault;
 use records::Item;
+use std::fmt;
 
 #[derive(Drop)]
 pub struct Tally {
@@ -22,6 +23,15 @@ pub enum TallyFault {
     NotOfTally,
     // there is an item for each record
     NoneLeft,
+}
+
+impl fmt::Display for TallyFault {
+    fn fmt<W: fmt::Write>(&self, f: &mut fmt::Formatter<W>) -> fmt::Result {
+        f.write_str(match self {
+            TallyFault::NotOfTally => "this is no item of a tally: A",
+            TallyFault::NoneLeft => "there is an item for each record already",
+        })
+    }
 }
 
 impl ItemFault for TallyFault {

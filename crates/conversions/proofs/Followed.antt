@@ -5,8 +5,9 @@ use Rattle.std.proofs.lemmas.List.{map_push}
 use Rattle.records.specs.declared.action.Action.{Action}
 use Rattle.agreement.specs.Convert.{Group, group, holds, joins}
 use Rattle.agreement.proofs.Updates.{cons≢nil}
+use Rattle.machines.specs.Windows.{younger}
 use Rattle.conversions.specs.declared.hosts.Host.{Host}
-use Rattle.conversions.specs.Hosts.{new_host, stay, joins_at, younger}
+use Rattle.conversions.specs.Hosts.{new_host, stay, joins_at}
 use Rattle.conversions.specs.Along.{Own, performed, drained}
 use Rattle.conversions.proofs.Hosted.{host_of, hosts_of, positive, positive-some, positive-none, holds-stay, joins-hosts}
 

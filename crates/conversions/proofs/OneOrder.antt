@@ -13,9 +13,10 @@ use Rattle.machines.specs.Memory.{upd}
 use Rattle.agreement.specs.Convert.{Group, group, holds, joins, each, released, flushed, comings}
 use Rattle.agreement.specs.Convert.{Planner, plan_read, plan_perform, plan_drain, plan}
 use Rattle.machines.specs.Encoded.{certificate_encoded}
+use Rattle.machines.specs.Windows.{younger}
 use Rattle.agreement.specs.Evidence.{run_items}
 use Rattle.agreement.proofs.Updates.{on₁, on₂, on₃}
-use Rattle.conversions.specs.Hosts.{width, stay, leaving, younger}
+use Rattle.conversions.specs.Hosts.{width, stay, leaving}
 use Rattle.conversions.specs.Along.{Own, performed, drained, unhosted, comes, performed_next, comes_next}
 use Rattle.conversions.specs.Along.{come_of, step_all, step_comes, flushed_from, order_along}
 use Rattle.conversions.proofs.Staying.{unhosted-some}

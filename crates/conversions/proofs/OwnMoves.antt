@@ -10,15 +10,16 @@ use Rattle.machines.specs.declared.items.RunItem.{RunItem}
 use Rattle.machines.specs.declared.items.RunItem.TheVariants.{Perform, Drain}
 use Rattle.machines.specs.Items.{run_item, one}
 use Rattle.machines.specs.Memory.{upd}
+use Rattle.machines.specs.Windows.{younger}
 use Rattle.agreement.specs.Convert.{Group, group, holds, joins, Mark, shift, shifts, passing, settling}
 use Rattle.agreement.specs.Convert.{Plan, Planner, plan_read, plan_perform, plan_drain, plan}
 use Rattle.agreement.specs.Evidence.{run_items}
 use Rattle.machines.proofs.Tables.{upd_at, upd_off}
 use Rattle.agreement.proofs.Shifts.{shifts-nil, shifts-append, shifts-more}
-use Rattle.conversions.specs.Hosts.{new_host, width, stay, joins_at, younger}
+use Rattle.conversions.specs.Hosts.{new_host, width, stay, joins_at}
 use Rattle.conversions.specs.Along.{Own, performed, drained, moves_before, moves_of, performed_next, moves_next}
 use Rattle.conversions.specs.Along.{step_own, step_moves, moves_along}
-use Rattle.conversions.proofs.Staying.{stay-within, width-append, width-joins}
+use Rattle.conversions.proofs.Staying.{stay-within, width_append, width-joins}
 use Rattle.conversions.proofs.Hosted.{hosts_of, move_item, as_moves, read-moves}
 use Rattle.conversions.proofs.Followed.{next-some, Alike, alike_none, alike_next, alike_drained, alike_empty}
 use Rattle.conversions.proofs.Followed.{read_hosted, read_comes, read_joins, read_stays, write-waits}
@@ -122,7 +123,7 @@ module _ (N : ℕ) (l : List Action) (t : ℕ) where
             → as_moves t (shifts b ((plan_perform next t rest gs (a ∷ rs)).marks t)) ≡ moves_of t a s ++ moves_along l t is (performed a s)
         own-action (Write n x) h =
             waits (Write n x) (gs t ++ (group n x [] ∷ [])) h (write-waits n x (gs t) s.hosts h.hosts)
-            (let w = width-append s.hosts (new_host x ∷ []) in omega arith)
+            (let w = width_append s.hosts (new_host x ∷ []) in omega arith)
         own-action (Read n x v) h = own_read n x v (holds x (gs t)) refl h
         own-action (Sync n k o) h =
             let p = next (upd rest t rs) gs in

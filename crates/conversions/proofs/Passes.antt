@@ -7,7 +7,7 @@ use Rattle.conversions.specs.Hosts.{width}
 use Rattle.conversions.specs.Along.{move_of, passes, moves_before}
 use Rattle.conversions.specs.Sheets.{Adds, Room}
 use Rattle.conversions.proofs.Sheets.{Leads, leads-same, leads-room, leads-more}
-use Rattle.conversions.proofs.Staying.{passes_push, width-append}
+use Rattle.conversions.proofs.Staying.{passes_push, width_append}
 
 module _ (t place : ℕ) (hs : List Host) (first : Sheet) where
   abbrev whole : List Item
@@ -27,7 +27,7 @@ module _ (t place : ℕ) (hs : List Host) (first : Sheet) where
       (e : older ≡ rest ++ host ∷ []) (h : Left older before now) where
     wider : before ≡ b + width rest + (host.joined + 1)
     wider =
-        let w = ap width e ∙ width-append rest (host ∷ []) in
+        let w = ap width e ∙ width_append rest (host ∷ []) in
         let a = h.ahead in
         omega arith
 

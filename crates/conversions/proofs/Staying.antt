@@ -6,7 +6,6 @@ use Rattle.std.proofs.lemmas.List.{drop-set-add, take-append-drop}
 use Rattle.std.proofs.lemmas.List.Edits.{length-between, get_or-between}
 use Rattle.std.proofs.lemmas.List.Sums.{sum_by-cons}
 use Rattle.records.specs.declared.Item.{Item}
-use Rattle.machines.proofs.Windows.{window_more, window-less}
 use Rattle.conversions.specs.declared.hosts.Host.{Host}
 use Rattle.conversions.specs.Hosts.{new_host, width, behind, stay, raised, joins_at}
 use Rattle.conversions.specs.Along.{unhosted, move_of, passes}
@@ -38,12 +37,12 @@ width-sum (h ∷ hs) =
     let w = width-sum hs in
     sum_by-cons (λ n. n) (h.joined + 1) (map (λ (g : Host). g.joined + 1) hs) ∙ omega arith
 
-pub width-append : (xs ys : List Host) → width (xs ++ ys) ≡ width xs + width ys
-width-append [] ys = omega arith
-width-append (h ∷ xs) ys = let a = width-append xs ys in omega arith
+pub width_append : (xs ys : List Host) → width (xs ++ ys) ≡ width xs + width ys
+width_append [] ys = omega arith
+width_append (h ∷ xs) ys = let a = width_append xs ys in omega arith
 
 pub width-drop : (n : ℕ) (hs : List Host) → width (take n hs) + width (drop n hs) ≡ width hs
-width-drop n hs = sym (width-append (take n hs) (drop n hs)) ∙ ap width (take-append-drop n hs)
+width-drop n hs = sym (width_append (take n hs) (drop n hs)) ∙ ap width (take-append-drop n hs)
 
 pub width-take-le : (n : ℕ) (hs : List Host) → width (take n hs) ≤ width hs
 width-take-le n hs = let w = width-drop n hs in omega arith
@@ -92,6 +91,3 @@ passes_push t b (g ∷ hs) h =
 -- ── What the check may use at a row's methods ──
 -- a read stays within the hosts that wait, and passes no more than wait
 pub ruleset staying = (stay-within, length-between, width-take-le, width-drop-le)
-
--- a window moves at either end
-pub ruleset moving = (window_more, window-less, width-append)

@@ -11,8 +11,9 @@ use Rattle.machines.specs.declared.items.RunItem.{RunItem}
 use Rattle.machines.specs.declared.items.RunItem.TheVariants.{Perform, Drain}
 use Rattle.machines.specs.Items.{run_item}
 use Rattle.machines.specs.Memory.{upd}
+use Rattle.machines.specs.Windows.{younger}
 use Rattle.conversions.specs.declared.hosts.Host.{Host}
-use Rattle.conversions.specs.Hosts.{new_host, width, stay, joins_at, leaving, younger}
+use Rattle.conversions.specs.Hosts.{new_host, width, stay, joins_at, leaving}
 
 -- ── One thread ──
 -- its next place, and its waiting writes

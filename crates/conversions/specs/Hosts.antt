@@ -27,11 +27,7 @@ abbrev pub joins_at : ℕ → List Host → List Host
 joins_at zero hs = hs
 joins_at (suc n) hs = slice_set hs n (raised (slice_index_or hs n (new_host 0)))
 
--- how many actions come when the oldest host drains, and the others
+-- how many actions come when the oldest host drains
 abbrev pub leaving : List Host → ℕ
 leaving [] = 0
 leaving (h ∷ hs) = suc h.joined
-
-abbrev pub younger : List Host → List Host
-younger [] = []
-younger (h ∷ hs) = hs

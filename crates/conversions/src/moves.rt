@@ -40,13 +40,13 @@ fn pass(thread: u8, place: u8, passed: &[Host], sheet: &mut Sheet)
 // The moves of the thread's next action, if it has one: a read passes the hosts that are newer than the one it stays at.
 #[tactic(auto, using(crate::proofs::Staying::staying))]
 fn moves_of_next(case: &CheckedCase, thread: u8, row: &Row, sheet: &mut Sheet)
-    requires room { Room (moves_next thread (slice_get (thread_of (threads case.now) thread) row.now.next) (own_of row.now)) sheet.old }
-    ensures list { Adds (moves_next thread (slice_get (thread_of (threads case.now) thread) row.now.next) (own_of row.now)) sheet.old sheet.new }
+    requires room { Room (moves_next thread (slice_get (thread_of (threads case.now) thread) row.now.window.next) (own_of row.now)) sheet.old }
+    ensures list { Adds (moves_next thread (slice_get (thread_of (threads case.now) thread) row.now.window.next) (own_of row.now)) sheet.old sheet.new }
 {
-    if let Some(Action::Read { location, .. }) = case.action(thread, row.next) {
+    if let Some(Action::Read { location, .. }) = case.action(thread, row.window.next) {
         let waiting = row.waiting();
         let stay = hosts::stay_at(waiting, location);
-        pass(thread, row.next, &waiting[stay..], sheet);
+        pass(thread, row.window.next, &waiting[stay..], sheet);
     }
 }
 

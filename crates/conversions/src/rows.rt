@@ -1,26 +1,22 @@
 // A thread's row of the converter: its next place, and its waiting writes as a window of a table.
 //
-// A write that joins goes to the window's end and one that drains leaves its front, so that nothing is ever shifted. The
-// imports of the methods stand in their block, since some of them name the row.
+// The window is the one that the run checker's rows have, from the crate machines. The imports of the methods stand in
+// their block, since some of them name the row.
 ghost use Rattle.std.specs.Prelude.{◌≤◌};
-ghost use Rattle.std.specs.List.{between};
+ghost use Rattle.machines.specs.Windows.{waiting};
 ghost use Rattle.conversions.specs.Hosts.{width};
 
 use crate::hosts;
 use crate::hosts::Host;
 use case::checked::CheckedCase;
+use machines::rows::Window;
 use records::action::Action;
 
 #[derive(Clone, Copy)]
 pub(crate) struct Row {
-    pub(crate) next: u8,
-    from: u8,
-    upto: u8,
+    pub(crate) window: Window,
     hosts: [Host; 64],
-    ghost ordered: { from ≤ upto },
-    ghost behind: { upto ≤ next },
-    ghost within: { next ≤ 64 },
-    ghost counted: { width (between from upto hosts) ≤ next },
+    ghost counted: { width (waiting window hosts) ≤ window.next },
 }
 
 impl Row {
@@ -37,9 +33,7 @@ impl Row {
         ensures { own_of result ≡ start }
     {
         Row {
-            next: 0,
-            from: 0,
-            upto: 0,
+            window: Window::fresh(),
             hosts: [Host {
                 location: 0,
                 joined: 0,
@@ -50,7 +44,7 @@ impl Row {
     pub(crate) fn waiting(&self) -> &[Host]
         ensures { result.now ≡ window self.now }
     {
-        &self.hosts[self.from as usize..self.upto as usize]
+        self.window.waiting(&self.hosts)
     }
 
     // How many actions wait.
@@ -64,40 +58,41 @@ impl Row {
     }
 
     // A plain write is performed, and waits.
-    #[tactic(auto, using(crate::proofs::Staying::moving))]
+    #[tactic(auto, using(crate::proofs::Staying::width_append))]
     fn host(&mut self, location: u8)
-        requires { self.old.next < 64 }
-        ensures next { self.new.next ≡ suc self.old.next }
+        requires { self.old.window.next < 64 }
+        ensures next { self.new.window.next ≡ suc self.old.window.next }
         ensures hosts { window self.new ≡ window self.old ++ (new_host location ∷ []) }
     {
-        self.hosts[self.upto as usize] = Host {
-            location,
-            joined: 0,
-        };
-        self.upto += 1;
-        self.next += 1;
+        self.window.join(
+            &mut self.hosts,
+            Host {
+                location,
+                joined: 0,
+            },
+        );
     }
 
     // A plain read is performed, and joins the newest host to its location; where there is none, it comes now.
     #[tactic(auto, using(crate::proofs::Staying::staying))]
     fn join(&mut self, location: u8) -> u8
-        requires { self.old.next < 64 }
+        requires { self.old.window.next < 64 }
         ensures value { result ≡ unhosted (stays_at location (window self.old)) }
-        ensures next { self.new.next ≡ suc self.old.next }
+        ensures next { self.new.window.next ≡ suc self.old.window.next }
         ensures hosts { window self.new ≡ joins_at (stays_at location (window self.old)) (window self.old) }
     {
         let stay = hosts::stay_at(self.waiting(), location);
-        self.next += 1;
+        self.window.pass();
         if stay == 0 {
             return 1;
         }
-        self.hosts[self.from as usize + stay - 1].joined += 1;
+        self.hosts[self.window.from as usize + stay - 1].joined += 1;
         0
     }
 
     // An action is performed. Answers how many actions come now.
     fn perform(&mut self, action: Action) -> u8
-        requires { self.old.next < 64 }
+        requires { self.old.window.next < 64 }
         ensures value { result ≡ comes action (own_of self.old) }
         ensures after { own_of self.new ≡ performed action (own_of self.old) }
     {
@@ -108,7 +103,7 @@ impl Row {
                 0
             }
             Action::Sync { .. } => {
-                self.next += 1;
+                self.window.pass();
                 1
             }
         }
@@ -116,26 +111,23 @@ impl Row {
 
     // The thread performs its next action, if it has one. Answers how many actions come now.
     pub(crate) fn perform_next(&mut self, case: &CheckedCase, thread: u8) -> u8
-        ensures value { result ≡ comes_next (slice_get (thread_of (threads case.now) thread) self.old.next) (own_of self.old) }
-        ensures after { own_of self.new ≡ performed_next (slice_get (thread_of (threads case.now) thread) self.old.next) (own_of self.old) }
+        ensures value { result ≡ comes_next (slice_get (thread_of (threads case.now) thread) self.old.window.next) (own_of self.old) }
+        ensures after { own_of self.new ≡ performed_next (slice_get (thread_of (threads case.now) thread) self.old.window.next) (own_of self.old) }
     {
-        match case.action(thread, self.next) {
+        match case.action(thread, self.window.next) {
             Some(action) => self.perform(action),
             None => 0,
         }
     }
 
     // The oldest host leaves, if there is one. Answers how many actions come now: it and the reads that joined it.
-    #[tactic(auto, using(crate::proofs::Staying::moving))]
     pub(crate) fn leave(&mut self) -> u8
         ensures value { result ≡ leaving (window self.old) }
         ensures after { own_of self.new ≡ drained (own_of self.old) }
     {
-        if self.from == self.upto {
-            return 0;
+        match self.window.leave(&self.hosts) {
+            Some(host) => host.joined + 1,
+            None => 0,
         }
-        let host = self.hosts[self.from as usize];
-        self.from += 1;
-        host.joined + 1
     }
 }

@@ -12,7 +12,7 @@ sum-requires-clause-fits c =
     let w = width-sum c.waiting.result.now in
     let e = ap width c.waiting.ensures in
     let k = c.args.self.now.counted in
-    let n = c.args.self.now.within in
+    let n = c.args.self.now.window.within in
     fits_from_yields_list c.map.result (2 ^ 64)
     (YieldsList-from_map _ (λ (h : Host). h.joined + 1) (YieldsList-from_slice c.waiting.result.now cc) c.map.ensures.closure (λ x r q k. search (rules, tests)))
     (omega arith)

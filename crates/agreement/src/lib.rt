@@ -13,35 +13,27 @@ ghost use Rattle.agreement.specs.Agreement.{Agreement, Encoding, Few, ToCertific
 ghost use Rattle.agreement.specs.Worked.{StoreBuffering, CarriedRead};
 
 // Some run is complete for a case exactly if some certificate is.
-pub fn runs_and_certificates_agree() -> u8
+pub fn runs_and_certificates_agree()
     ensures { Agreement }
-{
-    0
-}
+{}
 
 // What is written of a complete run is a complete certificate, with how many moves and items; what a complete certificate
 // is replayed to is a complete run. The list by moments: there is one, it can be computed, and it is what a run emits.
-pub fn conversions_stand() -> u8
+pub fn conversions_stand()
     ensures certificate { ToCertificate }
     ensures run { ToRun }
     ensures moments { ByMoments }
-{
-    0
-}
+{}
 
 // At most 512 items of a run are taken and at most 4,352 of a certificate, with at most 4,096 moves; what is written as an
 // item is read back, and each item that is taken was written so.
-pub fn few_items_are_taken() -> u8
+pub fn few_items_are_taken()
     ensures few { Few }
     ensures encoding { Encoding }
-{
-    0
-}
+{}
 
 // Store buffering there and back, and a read that is carried past: by computation.
-pub fn executions_convert() -> u8
+pub fn executions_convert()
     ensures buffering { StoreBuffering }
     ensures carried { CarriedRead }
-{
-    0
-}
+{}

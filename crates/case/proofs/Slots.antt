@@ -170,5 +170,7 @@ module _ (xs : List Record) (formed : in_form xs ≡ true) (starts : List ℕ) (
     pub starts-before : a ≤ k
     starts-before = omega (arith, begin_is, (name_of xs formed k inside).starts)
 
-    pub name_by_start : t * 64 + (k - a) ≡ name xs k
-    name_by_start = (λ i. which i * 64 + (k - begin_is i)) ∙ (name_of xs formed k inside).is
+    pub name_by_start : named t (k - a) ≡ name xs k
+    name_by_start =
+        let here : t * 64 + (k - a) ≡ name xs k = (λ i. which i * 64 + (k - begin_is i)) ∙ (name_of xs formed k inside).is in
+        omega arith

@@ -22,6 +22,7 @@ use form::fault::FormFault;
 use form::threads::Layout;
 use records::Record;
 use records::action::Action;
+use records::names::named;
 
 // These records at the front of a full table.
 fn padded(records: &[Record]) -> [Record; 256]
@@ -82,7 +83,7 @@ impl CheckedCase {
         ensures located { IfSome result Located }
     {
         let record = self.thread(thread).get(place as usize)?;
-        record.action(u16::from(thread) * 64 + u16::from(place))
+        record.action(named(thread, place))
     }
 
     // The name of the record at an index.
@@ -92,7 +93,7 @@ impl CheckedCase {
     {
         let thread = self.records().get(index)?.thread;
         let place = index - self.layout.range(thread).start;
-        Some(u16::from(thread) * 64 + place as u16)
+        Some(named(thread, place as u8))
     }
 
     // The index of the record that has a name.
@@ -105,6 +106,7 @@ impl CheckedCase {
 }
 
 // How many answers of the form check docs/EXECUTIONS.md prints, which are all proved to be what the check answers.
+// A function for the table of each layer, here and above, and none for all: a theorem's table is no argument of a call.
 pub fn worked_forms() -> usize
     ensures count { result ≡ length examples }
     ensures stand { stand examples ≡ true }

@@ -12,6 +12,7 @@ use case::checked::CheckedCase;
 use machines::rows::Window;
 use records::action::Action;
 
+// A fixed table with its window beside it: there is no heap where this runs.
 #[derive(Clone, Copy)]
 pub(crate) struct Row {
     pub(crate) window: Window,

@@ -107,6 +107,7 @@ impl<K: Evidence> Docket<K> {
         if !self.fits(ticket.name()) {
             return Err(TicketFault::NotThisTicket.into());
         }
+        // A `match` and no `map_err` with `?`, whose proof did not close here.
         match self.checker.put(&self.case, item) {
             Ok(()) => {
                 self.taken = self.taken.saturating_add(1);

@@ -53,6 +53,7 @@ mod tests {
     use sessions::examination::examine;
     use std::test::Fail;
 
+    // Written out, since a constant calls no trait's method.
     const B: Record = Record {
         letter: 'B',
         value: 0,

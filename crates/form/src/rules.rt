@@ -9,6 +9,7 @@ ghost use Rattle.form.specs.Rules.{mixed, saw_no_write, sees_no_write, misframed
 use crate::fault::FormFault;
 use crate::formed::WellFormed;
 use records::Record;
+use records::names::default_write;
 
 fn writes_to(r: &Record, location: u8) -> bool
     ensures { result ≡ (is_write r.now.letter && r.now.target == location) }
@@ -60,7 +61,7 @@ impl WellFormed<'_> {
         ensures { result ≡ sees_no_write self.now.records.now r.now }
     {
         r.is_read()
-            && r.seen != 512 + u16::from(r.target)
+            && r.seen != default_write(r.target)
             && !self
                 .find(r.seen)
                 .is_some_and(|j| writes_to(&self.records[j], r.target))

@@ -36,6 +36,7 @@ mod tests {
     use super::*;
     use form::fault::FormFault;
 
+    // Written out, since a constant calls no trait's method.
     const B: Record = Record {
         letter: 'B',
         value: 0,

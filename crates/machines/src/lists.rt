@@ -3,6 +3,7 @@ ghost use Rattle.std.specs.Prelude.{◌≡◌, ◌≤◌, length};
 
 use crate::memory::Memory;
 
+// A fixed table with its length beside it: there is no heap where this runs.
 #[derive(Clone, Copy)]
 pub struct MovedList {
     pub(crate) next: u8,
@@ -12,7 +13,7 @@ pub struct MovedList {
 }
 
 // Moves and then one order of all actions: the moved lists, memory as the actions that came leave it, and whether the
-// order has begun.
+// order has begun. That is a flag and no type for each phase, since an item that comes at run time ends the first phase.
 #[derive(Clone, Copy)]
 pub struct Certificate {
     pub(crate) lists: [MovedList; 8],

@@ -8,6 +8,7 @@ use crate::faults::Mismatch;
 use records::action::{Action, SyncOp};
 use records::names::default_write;
 
+// A fixed table: there is no heap where this runs.
 #[derive(Clone, Copy)]
 pub struct Memory {
     pub(crate) writes: [u16; 64],

@@ -25,6 +25,7 @@ pub struct PendingWrite {
     ghost small: { location < 64 },
 }
 
+// A fixed table with its window beside it: there is no heap where this runs, and a checker is copied as one value.
 #[derive(Clone, Copy)]
 pub struct Row {
     pub(crate) window: Window,

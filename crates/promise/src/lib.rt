@@ -92,7 +92,7 @@ pub fn examine_and_convert<K: Evidence>(
     ensures agree { Agreement }
     ensures converts { Converts case.now evidence.now out.old out.new result.converted direction }
 {
-    let _ = runs_and_certificates_agree();
+    runs_and_certificates_agree();
     let docket = session(checker, case, number, held, calls, answers);
     let converted = convert(case, direction, evidence, out);
     Served { docket, converted }

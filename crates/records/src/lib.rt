@@ -15,6 +15,7 @@ pub mod action;
 pub mod names;
 
 // One action of a case, as it was traced. Which fields are used is told by the letter; the others are 0 in a case in form.
+// The letter is no enum, since a caller in C may hand in any character, and the form check has to answer for it.
 #[derive(Clone, Copy, Debug, Default, PartialEq)]
 pub struct Record {
     pub letter: char,
@@ -25,7 +26,8 @@ pub struct Record {
     pub target: u8,
 }
 
-// One step of evidence: of a run ('A', 'D') or of a certificate ('M', 'O').
+// One step of evidence: of a run ('A', 'D') or of a certificate ('M', 'O'). As in a record the letter is any
+// byte that a caller hands in; `RunItem` and `CertificateItem` of the crate machines are the enums of what it says.
 #[derive(Clone, Copy, Debug, Default, PartialEq)]
 pub struct Item {
     pub letter: u8,

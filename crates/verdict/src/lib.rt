@@ -8,7 +8,8 @@
 // that stands a law (`AllowedExactly`): "allowed" is said exactly if both texts read, the case is in form and the evidence is
 // complete, and then the model allows the case.
 //
-// Nothing here allocates: records and items are read into tables of their greatest size.
+// Nothing here allocates: records and items are read into tables of their greatest size, with a count beside, so that the
+// one thing that can fail is that `out` is too short.
 #![tactic(auto)]
 
 ghost use Rattle.std.specs.Prelude.{◌≡◌, length, MatchResult, Err};
@@ -77,6 +78,7 @@ fn load(
     ensures loaded { MatchResult result (λ n. Loaded case_text.now evidence_text.now case.new items.new n) (λ f. said (Err f) ≡ judged case_text.now evidence_text.now) }
 {
     let mut records = [Record::default(); 256];
+    // A `match` and no `map_err`: what a variant makes when it is passed as a function gets no proof here.
     let count = match read(case_text, &mut records) {
         Ok(count) => count,
         Err(fault) => return Err(Fault::CaseText(fault)),

@@ -25,8 +25,7 @@ returns c =
     let h = c.in_ok-record.ensures.lookup.3 in
     let inside : p < length (of_thread t xs) = omega (arith, ap length c.thread.ensures.value, h.0) in
     let is : r ≡ get_or (of_thread t xs) p blank = h.1 blank ∙ ap (λ l. get_or l p blank) c.thread.ensures.value in
-    let n : c.from.result * 64 + c.from-2.result ≡ 64 * t + p = omega arith in
-    let e : c.action.result ≡ action_of (64 * t + p) r = c.action.ensures ∙ ap (λ i. action_of i r) n in
+    let e : c.action.result ≡ action_of (64 * t + p) r = c.action.ensures ∙ ap (λ i. action_of i r) c.named.ensures in
     record {
       value = e ∙ sym (action-some xs self.formed t p r inside is);
       located = subst (λ a. IfSome a Located) (sym e) (action-located xs self.formed t p r inside is (64 * t + p));

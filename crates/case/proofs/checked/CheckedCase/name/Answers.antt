@@ -22,9 +22,8 @@ returns c =
     let xs = records_of self in
     let k = c.args.index in
     let f = found_at xs c.records.result.now k _ c.records.ensures.value c.in_ok-thread.ensures.lookup.3 in
-    let n : c.from.result * 64 + (k - c.range.result.start) ≡ name xs k =
-    ap (λ t. t * 64 + (k - c.range.result.start)) c.from.ensures
-    ∙ name_by_start xs self.formed self.layout.starts self.laid k _ c.range.result.start f.0 f.1 c.range.ensures.start in
+    let n : c.named.result ≡ name xs k =
+    c.named.ensures ∙ name_by_start xs self.formed self.layout.starts self.laid k _ c.range.result.start f.0 f.1 c.range.ensures.start in
     record {
       value = ap (λ (i : ℕ). Some i) n ∙ sym (cond-true _ _ _ (lt-ltb _ _ f.0));
       found = ap (record_named xs) n ∙ (name_of xs self.formed k f.0).found;

@@ -30,7 +30,6 @@ echo '5  facts that are repeated, parameters that travel together'
 n=0; for c in crates/*/; do k=$(find $c/src -name '*.rt' | xargs grep -hE '^ +requires' | sed -E 's/^ +requires ([a-z_]+ )?\{/{/' | sort | uniq -c | awk '$1>=3{s+=$1}END{print s+0}'); n=$((n+k)); done
 printf '%-64s %4d\n' '   a requires that stands three times or more in its crate' $n
 n=$(src | xargs cat | tr -d '\n' | grep -oE 'out: &mut \[[A-Za-z0-9]+\], *(mut )?at: usize' | wc -l)
-n=$((n + $(src | xargs cat | tr -d '\n' | grep -oE 'out: &mut \[Item\], +(mut )?at: usize' | wc -l) * 0))
 printf '%-64s %4d\n' '   a buffer and the place in it, as two parameters' $n
 n=$(src | xargs cat | tr -d '\n' | grep -oE 'docket: &mut Docket<K>, *held: &m?u?t? ?\[' | wc -l)
 printf '%-64s %4d\n' '   a docket and the slots beside it' $n

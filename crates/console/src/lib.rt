@@ -1,4 +1,5 @@
-// What the programs judge and convert share: their arguments, the two files, and a verdict in plain words.
+// What the programs judge and convert share: their arguments, the two files, the way from these to what is written, and a
+// verdict in plain words. The program examples reads its files as they do.
 //
 // Nothing here decides anything: verdicts come from the crate verdict, and only its bytes go to standard output. What is
 // said in words goes to standard error.
@@ -40,13 +41,13 @@ pub fn read_texts(rt: &HostRuntime, options: &Options) -> io::Result<Texts> {
     Ok(Texts { case, evidence })
 }
 
-// A program of a name, with its help: writes to standard output what `write` makes of the two texts, which is no longer
-// than `room`, and says the verdict on them in words.
+// A program of a name, with its help: writes to standard output what `write` makes of the two texts in these bytes, and says
+// the verdict on them in words.
 pub fn run<W: Fn(&[u8], &[u8], &mut [u8]) -> Result<usize, TextFault>>(
     rt: &HostRuntime,
     name: &str,
     help: &str,
-    room: usize,
+    bytes: &mut [u8],
     write: W,
 ) -> anyhow::Result<()>
     requires { W.IsAlwaysCallable write }
@@ -65,10 +66,12 @@ pub fn run<W: Fn(&[u8], &[u8], &mut [u8]) -> Result<usize, TextFault>>(
         return Ok(());
     }
     let Texts { case, evidence } = read_texts(rt, &options)?;
-    let mut bytes = vec![in rt.alloc(); 0u8; room]?;
-    match write(case.as_slice(), evidence.as_slice(), &mut bytes) {
+    match write(case.as_slice(), evidence.as_slice(), bytes) {
         Ok(count) if count <= bytes.len() => rt.stdout().write_all(&bytes[0..count])?,
-        _ => return Err(anyhow!("what is to be written is longer than {room} bytes")),
+        _ => {
+            let room = bytes.len();
+            return Err(anyhow!("what is to be written is longer than {room} bytes"));
+        }
     }
     if !options.quiet {
         explain(rt, &judge(case.as_slice(), evidence.as_slice()), &options)?;

@@ -13,7 +13,6 @@ use kinds::Evidence;
 use machines::items::RunItem;
 use machines::lists::Certificate;
 use machines::rows::Run;
-use records::names::default_write;
 use records::{Item, Record};
 
 // The record at a place of a thread, of so many threads: first what has a turn, then writes to the
@@ -52,7 +51,7 @@ fn record_at(threads: u16, thread: u16, place: u16, half: u16) -> Record {
     } else {
         Record {
             letter: 'r',
-            seen: default_write(40),
+            seen: 552,
             target: 40,
             ..blank
         }

@@ -1,5 +1,5 @@
 // From a run to a certificate: the moves thread by thread, and then one order of all actions.
-ghost use Rattle.std.specs.Prelude.{◌≡◌, ◌≤◌, true, ◌++◌, length, drop, IfOk, MatchResult, OnOk};
+ghost use Rattle.std.specs.Prelude.{◌≡◌, ◌≤◌, true, length, IfOk, MatchResult, OnOk};
 ghost use Rattle.case.specs.Cases.{records_of, threads};
 ghost use Rattle.machines.specs.Certificate.{certificate_machine};
 ghost use Rattle.machines.specs.Faults.{run_number};

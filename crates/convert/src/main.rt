@@ -17,5 +17,6 @@ it off. docs/CONVERSION.md has the rules.";
 const ROOM: usize = 65_536;
 
 fn main(rt: HostRuntime) -> anyhow::Result<()> {
-    run(&rt, "convert", HELP, ROOM, write_converted)
+    let mut bytes = vec![in rt.alloc(); 0u8; ROOM]?;
+    run(&rt, "convert", HELP, &mut bytes, write_converted)
 }

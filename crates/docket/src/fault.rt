@@ -5,17 +5,17 @@ ghost use Rattle.docket.specs.declared.fault.DocketFault.TheVariants.{Ticket as 
 
 use crate::ticket::Ticket;
 use machines::faults::ItemFault;
-use std::error::Error;
-use std::fmt;
+use std::{error, fmt};
+use thiserror::Error;
 
 // Why a ticket is not given out, or not taken.
-#[derive(Clone, Copy, Debug, PartialEq)]
+#[derive(Clone, Copy, Debug, PartialEq, Error)]
 pub enum TicketFault {
-    // an examination is open
+    #[error("an examination is open")]
     StillOpen,
-    // the ticket is not that of the open examination, or none is open
+    #[error("the ticket is not that of the open examination, or none is open")]
     NotThisTicket,
-    // 65,535 examinations have been opened
+    #[error("65,535 examinations have been opened")]
     NoneLeft,
 }
 
@@ -31,20 +31,6 @@ impl TicketFault {
         }
     }
 }
-
-impl fmt::Display for TicketFault {
-    fn fmt<W: fmt::Write>(&self, f: &mut fmt::Formatter<W>) -> fmt::Result {
-        f.write_str(match self {
-            TicketFault::StillOpen => "an examination is open",
-            TicketFault::NotThisTicket => {
-                "the ticket is not that of the open examination, or none is open"
-            }
-            TicketFault::NoneLeft => "65,535 examinations have been opened",
-        })
-    }
-}
-
-impl Error for TicketFault {}
 
 // Why a docket refuses a call, where F is the kind's reason for refusing an item.
 #[derive(Clone, Copy, Debug, PartialEq)]
@@ -95,7 +81,7 @@ impl<F: ItemFault> fmt::Display for DocketFault<F> {
     }
 }
 
-impl<F: ItemFault + fmt::Debug> Error for DocketFault<F> {}
+impl<F: ItemFault + fmt::Debug> error::Error for DocketFault<F> {}
 
 // A refused call that took a ticket hands it back.
 pub struct HandedBack {

@@ -5,7 +5,7 @@
 // whole: the answers, the verdicts, the tickets and the counts are the plain docket's, and the model allows the case
 // exactly when there is complete evidence. `session` says it of a new docket, `work_off` of any, by the plain docket
 // that it stands for.
-ghost use Rattle.std.specs.Prelude.{◌≡◌, ◌≤◌, Some, None, length, drop, is_ok, IfOk, IfErr, OnOk, OnErr, MatchResult, nat_le};
+ghost use Rattle.std.specs.Prelude.{◌≡◌, ◌≤◌, Some, None, length, drop, is_ok, IfOk, IfErr, OnOk, OnErr, nat_le};
 ghost use Rattle.docket.specs.Promise.{ByEvidence, Answered, RuledOnItems, SlotsLeft, CountsLeft, TidySlots, PlainAnswers, PlainRulings, PlainSlots, PlainCounts, StillStands};
 ghost use Rattle.docket.specs.Plain.{empty};
 ghost use Rattle.docket.specs.Slots.{desk, worked};
@@ -19,20 +19,12 @@ use crate::ticket::Ticket;
 use case::checked::CheckedCase;
 use kinds::Evidence;
 use records::Item;
-use std::error::Error;
-use std::fmt;
+use thiserror::Error;
 
 // There are more calls than places for their answers.
-#[derive(Clone, Copy, Debug, PartialEq)]
+#[derive(Clone, Copy, Debug, PartialEq, Error)]
+#[error("there are more calls than places for answers")]
 pub struct TooFewAnswers;
-
-impl fmt::Display for TooFewAnswers {
-    fn fmt<W: fmt::Write>(&self, f: &mut fmt::Formatter<W>) -> fmt::Result {
-        f.write_str("there are more calls than places for answers")
-    }
-}
-
-impl Error for TooFewAnswers {}
 
 // The answer to a ticket that is handed back, which is put into its slot again.
 fn refused<F>(slot: &mut Option<Ticket>, back: HandedBack) -> Answer<F>

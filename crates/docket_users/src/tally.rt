@@ -1,5 +1,5 @@
 // The smallest kind that is of any use: an item A for each record of the case. It allows every case.
-ghost use Rattle.std.specs.Prelude.{◌≡◌, ℕ, ◌+◌, ◌-◌, length, replicate};
+ghost use Rattle.std.specs.Prelude.{ℕ, ◌+◌, ◌-◌, length, replicate};
 ghost use Rattle.docket_users.specs.Tallies.{tally, tally_number, tally_step};
 ghost use Rattle.std.proofs.Common.{arith, eq-eqb, rules};
 ghost use Rattle.case.specs.Cases.{records_of};
@@ -10,28 +10,19 @@ use case::checked::CheckedCase;
 use kinds::Evidence;
 use machines::faults::ItemFault;
 use records::Item;
-use std::fmt;
+use thiserror::Error;
 
 #[derive(Drop)]
 pub struct Tally {
     pub count: usize,
 }
 
-#[derive(Clone, Copy, Debug, PartialEq)]
+#[derive(Clone, Copy, Debug, PartialEq, Error)]
 pub enum TallyFault {
-    // a letter that is not A
+    #[error("this is no item of a tally: A")]
     NotOfTally,
-    // there is an item for each record
+    #[error("there is an item for each record already")]
     NoneLeft,
-}
-
-impl fmt::Display for TallyFault {
-    fn fmt<W: fmt::Write>(&self, f: &mut fmt::Formatter<W>) -> fmt::Result {
-        f.write_str(match self {
-            TallyFault::NotOfTally => "this is no item of a tally: A",
-            TallyFault::NoneLeft => "there is an item for each record already",
-        })
-    }
 }
 
 impl ItemFault for TallyFault {

@@ -4,7 +4,7 @@ pub mod Refused
 pub mod Tables
 pub mod Layouts
 pub mod Fields
-pub mod Flags
+pub mod Steps
 pub mod Turning
 pub mod Lives
 pub mod Unbroken

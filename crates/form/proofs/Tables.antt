@@ -1,12 +1,10 @@
 -- How a loop keeps a table: what stands at each key, when one entry is written and when none is.
-use Rattle.std.proofs.Common.{◌≡◌, ℕ, ◌+◌, ◌<◌, Bool, true, false, cond, ◌||◌, eqb, List, length, get_or, take, set, replicate, sym, refl, ap, ◌∙◌, ⊎_elim, arith}
+use Rattle.std.proofs.Common.{◌≡◌, ℕ, ◌+◌, ◌<◌, cond, eqb, List, length, get_or, take, set, replicate, sym, refl, ap, ◌∙◌, ⊎_elim, arith}
 use Rattle.std.proofs.lemmas.List.Filters.{length-filter_more}
 use Rattle.std.proofs.lemmas.List.{length-set, length-replicate, get_or-replicate, get_or-set_same, get_or-set_other}
-use Rattle.std.proofs.lemmas.Bool.{cases_eq, or_right, eq-eqb, ne_eqb, cond-true, cond-false}
+use Rattle.std.proofs.lemmas.Bool.{cases_eq, eq-eqb, ne_eqb, cond-true, cond-false}
 use Rattle.records.specs.declared.Record.{Record}
-use Rattle.records.specs.First.{some}
 use Rattle.records.specs.Names.{blank, at, of_thread}
-use Rattle.form.proofs.Found.{some_next, some_quiet}
 
 -- n entries, each what g says of its key
 abbrev pub Table : {X : Type 0} → (ℕ → X) → X → ℕ → List X → Type 0
@@ -27,22 +25,6 @@ module _ {X : Type 0} (g h : ℕ → X) (d : X) (n : ℕ) (ts : List X) (t : Tab
       at_key x m =
           ⊎_elim (λ e. ap (λ k. get_or (set ts i v) k d) e ∙ get_or-set_same ts i v d (omega (arith, t.0)) ∙ sym here ∙ ap h (sym e))
           (λ ne. get_or-set_other ts i x v d ne ∙ t.1 x m ∙ sym (else x ne)) (cases_eq x i)
-
--- ── Flags ──
--- whether f marks a key at one of the first k places
-abbrev pub Marks : (ℕ → ℕ → Bool) → ℕ → ℕ → List Bool → Type 0
-Marks f n k ts = Table (λ x. some (f x) k) false n ts
-
--- the place k marks at most the key i
-module _ (f : ℕ → ℕ → Bool) (n k : ℕ) (ts : List Bool) (t : Marks f n k ts) (i : ℕ) (l : i < n) (else : (x : ℕ) → (x ≡ i → ⊥) → f x k ≡ false) where
-  next_marks : (v : Bool) → (some (f i) k || f i k) ≡ v → Marks f n (k + 1) (set ts i v)
-  next_marks v e = put (λ x. some (f x) k) (λ x. some (f x) (k + 1)) false n ts t i v l (some_next (f i) k ∙ e) (λ x ne. some_quiet (f x) k (else x ne))
-
-  pub marks-put : f i k ≡ true → Marks f n (k + 1) (set ts i true)
-  marks-put here = next_marks true (or_right _ _ here)
-
-  pub marks-or : (b : Bool) → f i k ≡ b → Marks f n (k + 1) (set ts i (get_or ts i false || b))
-  marks-or b e = next_marks _ (λ j. sym (t.1 i l) j || e j)
 
 -- ── Counts ──
 -- how many of the first k records each of the eight threads has

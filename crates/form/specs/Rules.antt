@@ -4,6 +4,10 @@ use Rattle.records.specs.declared.Record.{Record}
 use Rattle.records.specs.First.{some}
 use Rattle.records.specs.Letters.{letter, among, is_capital, is_plain, is_volatile, is_read, is_write}
 use Rattle.records.specs.Names.{at, place, default, record_named}
+use Rattle.form.specs.declared.rules.Sort.{Sort}
+use Rattle.form.specs.declared.rules.Sort.TheVariants.{Plain, Volatile}
+use Rattle.form.specs.declared.rules.Frame.{Frame}
+use Rattle.form.specs.declared.rules.Frame.TheVariants.{Before, Within, After}
 
 -- ── 11: grouped by thread ──
 -- the thread of the record before, 0 ahead of the first
@@ -53,6 +57,10 @@ abbrev pub InRange : Record → Type 0
 InRange r = (r.thread < 8) × (well_formed r ≡ true)
 
 -- ── 13: plain and volatile locations do not mix ──
+-- the sort of location that a letter accesses
+abbrev pub sort_of : ℕ → Option Sort
+sort_of c = cond (is_plain c) (Some Plain) (cond (is_volatile c) (Some Volatile) None)
+
 -- an access of this sort to location x
 abbrev pub accesses : (ℕ → Bool) → List Record → ℕ → ℕ → Bool
 accesses sort xs x j = sort (at xs j).letter && (at xs j).target == x
@@ -100,3 +108,9 @@ abbrev pub misframed : List Record → ℕ → Bool
 misframed xs k =
     cond (some (of_same_thread xs (at xs k).thread) k) ((at xs k).letter == (letter "B")) (not ((at xs k).letter == (letter "B")))
     || some (end_of xs (at xs k).thread) k
+
+-- where a record of this letter leaves its thread, if the letter may come where the thread stands
+abbrev pub frame_after : Frame → ℕ → Option Frame
+frame_after Before c = cond (c == (letter "B")) (Some Within) None
+frame_after Within c = cond (c == (letter "B")) None (cond (c == (letter "E")) (Some After) (Some Within))
+frame_after After c = None

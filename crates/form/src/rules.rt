@@ -1,10 +1,10 @@
 // The rules along the list that lean on 11 and 12 alone: 13, 14 and 16.
-ghost use Rattle.std.specs.Prelude.{◌≡◌, ◌<◌, not, ◌||◌, ◌&&◌, length, if◌then◌else◌, ◌==◌, None, IfSome};
-ghost use Rattle.records.specs.Letters.{letter as code, is_plain, is_volatile, is_write};
+ghost use Rattle.std.specs.Prelude.{◌≡◌, ◌<◌, ◌&&◌, length, ◌==◌, None, IfSome};
+ghost use Rattle.records.specs.Letters.{is_write};
 ghost use Rattle.records.specs.Names.{record_named};
 ghost use Rattle.records.specs.Refusals.{refuse};
 ghost use Rattle.form.specs.Form.{along_list, refusal_in};
-ghost use Rattle.form.specs.Rules.{mixed, saw_no_write, sees_no_write, misframed};
+ghost use Rattle.form.specs.Rules.{sort_of, mixed, saw_no_write, sees_no_write, frame_after, misframed};
 
 use crate::fault::FormFault;
 use crate::formed::WellFormed;
@@ -17,18 +17,47 @@ fn writes_to(r: &Record, location: u8) -> bool
     r.is_write() && r.target == location
 }
 
-// Whether a record accesses as one sort a location that has been accessed as the other.
-fn mixes(r: &Record, plain: bool, volatile: bool) -> bool
-    ensures { result ≡ ((is_plain r.now.letter && volatile) || (is_volatile r.now.letter && plain)) }
-{
-    r.is_plain() && volatile || r.is_volatile() && plain
+// The sort of a location, which is that of all accesses to it.
+#[derive(Clone, Copy, PartialEq)]
+enum Sort {
+    Plain,
+    Volatile,
 }
 
-// Whether a letter is B although its thread has begun, or another before it has, or comes after the thread's end.
-fn misframes(letter: char, begun: bool, ended: bool) -> bool
-    ensures { result ≡ ((if begun then (letter == (code "B")) else not (letter == (code "B"))) || ended) }
-{
-    begun == (letter == 'B') || ended
+impl Sort {
+    // The sort of location that a letter accesses.
+    fn of(letter: char) -> Option<Sort>
+        ensures { result ≡ sort_of letter }
+    {
+        match letter {
+            'r' | 'w' => Some(Sort::Plain),
+            'R' | 'W' => Some(Sort::Volatile),
+            _ => None,
+        }
+    }
+}
+
+// Where a thread stands: before its first record, within its records, or after its E.
+#[derive(Clone, Copy)]
+enum Frame {
+    Before,
+    Within,
+    After,
+}
+
+impl Frame {
+    // Where the thread stands after a record of this letter, if the letter may come now.
+    fn after(self, letter: char) -> Option<Frame>
+        ensures { result ≡ frame_after self letter }
+    {
+        match (self, letter) {
+            (Frame::Before, 'B') => Some(Frame::Within),
+            (Frame::Within, 'B') => None,
+            (Frame::Within, 'E') => Some(Frame::After),
+            (Frame::Within, _) => Some(Frame::Within),
+            (Frame::Before | Frame::After, _) => None,
+        }
+    }
 }
 
 impl WellFormed<'_> {
@@ -36,15 +65,14 @@ impl WellFormed<'_> {
     pub(crate) fn check_locations(&self) -> Result<(), FormFault>
         ensures { refusal_in result ≡ refuse 13 (along_list mixed self.now.records.now) None }
     {
-        let mut plain = [false; 64];
-        let mut volatile = [false; 64];
+        let mut sorts = [None; 64];
         for (k, r) in self.records.iter().enumerate() {
-            let x = r.target as usize;
-            if mixes(r, plain[x], volatile[x]) {
+            let Some(sort) = Sort::of(r.letter) else {
+                continue;
+            };
+            if *sorts[r.target as usize].get_or_insert(sort) != sort {
                 return Err(FormFault::MixedLocation(k));
             }
-            plain[x] |= r.is_plain();
-            volatile[x] |= r.is_volatile();
         }
         Ok(())
     }
@@ -85,15 +113,10 @@ impl WellFormed<'_> {
     pub(crate) fn check_frames(&self) -> Result<(), FormFault>
         ensures { refusal_in result ≡ refuse 16 (along_list misframed self.now.records.now) None }
     {
-        let mut begun = [false; 8];
-        let mut ended = [false; 8];
+        let mut frames = [Frame::Before; 8];
         for (k, r) in self.records.iter().enumerate() {
-            let t = r.thread as usize;
-            if misframes(r.letter, begun[t], ended[t]) {
-                return Err(FormFault::Frame(k));
-            }
-            begun[t] = true;
-            ended[t] |= r.letter == 'E';
+            let frame = &mut frames[r.thread as usize];
+            *frame = frame.after(r.letter).ok_or(FormFault::Frame(k))?;
         }
         Ok(())
     }

@@ -22,5 +22,5 @@ A line in plain words goes to standard error; --quiet turns it off. docs/JUDGE.m
 const ROOM: usize = 64;
 
 fn main(rt: HostRuntime) -> anyhow::Result<()> {
-    run(&rt, "judge", HELP, ROOM, write_verdict)
+    run(&rt, "judge", HELP, &mut [0; ROOM], write_verdict)
 }

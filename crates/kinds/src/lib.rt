@@ -7,8 +7,9 @@
 //
 // Every kind owes three duties, the laws below: complete evidence is given only for cases that its model allows, every
 // case that the model allows has some, and no case takes more than 8,192 items. What is proved of dockets follows from
-// the laws and the three calls alone, so it holds of every kind that comes later. Whoever writes one gives the four ghost
-// members, the three calls and the laws, and changes nothing here; `bounded` of crates/machines/proofs/Feeds is what `short` mostly wants.
+// the laws and the three calls alone, so it holds of every kind that comes later. Whoever writes one gives the type of its
+// faults (an `ItemFault`: a number and words), the four ghost members, the three calls and the laws, and changes nothing here;
+// `bounded` of crates/machines/proofs/Feeds is what `short` mostly wants.
 #![tactic(auto)]
 
 ghost use Rattle.std.specs.Prelude.{◌≡◌, ◌≤◌, true, List, length, Ok, OnErr};

@@ -3,7 +3,7 @@ ghost use Rattle.std.specs.Prelude.{◌≡◌, ◌≤◌, length};
 
 use crate::memory::Memory;
 
-// A fixed table with its length beside it: there is no heap where this runs.
+// A fixed table, with how many of it have come: there is no heap where this runs.
 #[derive(Clone, Copy)]
 pub struct MovedList {
     pub(crate) next: u8,

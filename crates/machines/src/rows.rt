@@ -1,5 +1,5 @@
 // A thread's row of the run checker: its waiting writes as a window of a table. Any table of 64 can have such a window.
-ghost use Rattle.std.specs.Prelude.{◌≡◌, ◌<◌, ◌≤◌, length};
+ghost use Rattle.std.specs.Prelude.{◌<◌, ◌≤◌};
 
 use crate::memory::Memory;
 

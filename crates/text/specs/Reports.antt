@@ -1,6 +1,5 @@
 -- A file of one row, whose fields are words and numbers.
-use Rattle.std.specs.Prelude.{◌≡◌, ℕ, List, ◌∷◌, ◌++◌, map, decimal}
-use Rattle.std.proofs.Common.{sym, ap, append_assoc}
+use Rattle.std.specs.Prelude.{ℕ, List, ◌++◌, map, decimal}
 use Rattle.text.specs.declared.report.Cell.{Cell}
 use Rattle.text.specs.declared.report.Cell.TheVariants.{Word, Number}
 use Rattle.text.specs.Csv.{comma, join}
@@ -18,7 +17,3 @@ one_row_text header fields = ended header ++ ended (join comma fields)
 
 abbrev pub report_text : List ℕ → List Cell → List ℕ
 report_text header row = one_row_text header (map cell_bytes row)
-
--- two fields are as good as one that has the comma between them
-pub two_fields : (header a b c : List ℕ) (others : List (List ℕ)) → one_row_text header (a ∷ b ∷ c ∷ others) ≡ one_row_text header ((a ++ comma ∷ b) ∷ c ∷ others)
-two_fields header a b c others = ap (λ line. ended header ++ ended line) (sym (append_assoc a (comma ∷ b) (comma ∷ join comma (c ∷ others))))

@@ -1,5 +1,5 @@
 // A file of one row, which is only written.
-ghost use Rattle.std.specs.Prelude.{◌≡◌, ◌+◌, ◌<◌, ◌≤◌, map, length, MatchOption};
+ghost use Rattle.std.specs.Prelude.{◌≡◌, ◌+◌, ◌<◌, map, length, MatchOption};
 ghost use Rattle.text.specs.Csv.{comma, join};
 ghost use Rattle.text.specs.Faults.{answered};
 ghost use Rattle.text.specs.Reports.{cell_bytes, report_text, fitting};

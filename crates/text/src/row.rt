@@ -1,5 +1,5 @@
 // A row of a file: a record of a case, or an item of evidence.
-ghost use Rattle.std.specs.Prelude.{◌≡◌, ℕ, ◌+◌, ◌≤◌, true, List, length, if◌then◌else◌, Some, None};
+ghost use Rattle.std.specs.Prelude.{◌≡◌, ℕ, ◌+◌, true, List, length, if◌then◌else◌, Some, None};
 ghost use Rattle.std.proofs.Math.Path.{refl};
 ghost use Rattle.text.specs.Faults.{told_by};
 ghost use Rattle.text.specs.Files.{case_sheet, record_cells, record_of, evidence_sheet, item_cells, item_of};

@@ -1,5 +1,5 @@
 // The layers of the judge, in the order in which they are checked, and the kinds of evidence.
-ghost use Rattle.std.specs.Prelude.{◌≡◌, if◌then◌else◌, string_bytes};
+ghost use Rattle.std.specs.Prelude.{◌≡◌, if◌then◌else◌};
 ghost use Rattle.verdict.specs.Judging.{is_certificate};
 ghost use Rattle.verdict.specs.Layers.{layer_name, layer_of_kind};
 ghost use Rattle.verdict.specs.declared.layer.Kind.TheVariants as kinds;

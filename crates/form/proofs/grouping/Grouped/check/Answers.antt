@@ -4,7 +4,7 @@ use Rattle.std.proofs.lemmas.Bool.{or_parts}
 use Rattle.records.specs.Names.{at}
 use Rattle.records.proofs.Firsts.{clear-more}
 use Rattle.form.specs.Rules.{before, stray}
-use Rattle.form.proofs.Flags.{misplaced_is}
+use Rattle.form.proofs.Steps.{misplaced_is}
 use Rattle.form.proofs.Layouts.{straight}
 use Rattle.form.proofs.Refused.{refused_at, passed_all}
 use Rattle.form.proofs.Tables.{counts-more}

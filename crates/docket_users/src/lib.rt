@@ -5,8 +5,9 @@
 // promise, that its ticket is admitted.
 #![tactic(auto)]
 
-ghost use Rattle.std.specs.Prelude.{◌≡◌, false, [], ◌∷◌, length};
-ghost use Rattle.docket.specs.Standing.{vacant};
+ghost use Rattle.std.specs.Prelude.{◌≡◌, true, false, [], ◌∷◌, length};
+ghost use Rattle.docket.specs.Plain.{Plain, item_reply, now_open, joined, now_withdrawn};
+ghost use Rattle.docket.specs.Standing.{Stands, vacant, offer_says};
 ghost use Rattle.docket_users.specs.Worked.{printed, Printed, counts_at_end};
 
 pub mod tally;
@@ -22,6 +23,8 @@ pub fn try_first<K: Evidence>(
     docket: &mut Docket<K>,
     item: Item,
 ) -> Result<(), DocketFault<K::Fault>>
+    ensures answer { (p : Plain) → Stands K.Evidence docket.old p → vacant docket.old ≡ true → offer_says K.Fault.number result ≡ item_reply 0 ((K.machine docket.old.case).step (K.machine docket.old.case).fresh item) }
+    ensures stands { (p : Plain) → Stands K.Evidence docket.old p → vacant docket.old ≡ true → Stands K.Evidence docket.new (now_withdrawn (joined (now_open p) item ((K.machine docket.old.case).step (K.machine docket.old.case).fresh item))) }
     ensures kept { vacant docket.old ≡ false → docket.new ≡ docket.old }
 {
     let ticket = docket.open()?;

@@ -1,8 +1,6 @@
 // 15: which record takes each turn; and how a rule is looked for along the turns.
-ghost use Rattle.std.specs.Prelude.{◌≡◌, ℕ, ◌<◌, ◌≤◌, Bool, List, ◌&&◌, ◌||◌, length, Some, None, IfOk, nat_lt, slice_index};
-ghost use Rattle.std.specs.List.{list_any};
+ghost use Rattle.std.specs.Prelude.{◌≡◌, ℕ, ◌<◌, ◌≤◌, Bool, List, length, Some, None, IfOk, slice_index};
 ghost use Rattle.records.specs.declared.Record.{Record};
-ghost use Rattle.records.specs.Letters.{is_capital};
 ghost use Rattle.records.specs.Refusals.{refuse};
 ghost use Rattle.form.specs.Form.{along_list, along_turns, refusal_in};
 ghost use Rattle.form.specs.Rules.{capitals, clashes, mistimed, InRange};
@@ -53,27 +51,29 @@ fn count_capitals(records: &[Record]) -> usize
     records.iter().filter(|r| r.is_capital()).count()
 }
 
-fn clashes_with(x: &Record, earlier: &[Record]) -> bool
-    ensures { result ≡ list_any (clashes x.now) earlier.now }
-{
-    earlier.iter().any(|y| clash(x, y))
-}
-
-// Whether a capital has a turn above the number of capitals, or clashes with an earlier record.
-fn mistimes(x: &Record, earlier: &[Record], capitals: usize) -> bool
-    ensures { result ≡ (is_capital x.now.letter && (nat_lt capitals x.now.turn || list_any (clashes x.now) earlier.now)) }
-{
-    x.is_capital() && (x.turn as usize > capitals || clashes_with(x, earlier))
-}
-
+// Left at the first record that breaks the rule: a capital whose turn is above the number of capitals, or is taken by an
+// earlier record, or is below one that its thread has had.
 fn first_mistimed(records: &[Record]) -> Option<usize>
     ensures { result ≡ along_list mistimed records.now }
 {
     let capitals = count_capitals(records);
-    records
-        .iter()
-        .enumerate()
-        .position(|(k, x)| mistimes(x, &records[..k], capitals))
+    let mut broken = None;
+    'records: for (k, x) in records.iter().enumerate() {
+        if !x.is_capital() {
+            continue;
+        }
+        if x.turn as usize > capitals {
+            broken = Some(k);
+            break 'records;
+        }
+        for y in &records[..k] {
+            if clash(x, y) {
+                broken = Some(k);
+                break 'records;
+            }
+        }
+    }
+    broken
 }
 
 impl<'a> Turns<'a> {

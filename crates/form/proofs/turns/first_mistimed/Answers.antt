@@ -1,35 +1,51 @@
--- `position` finds the first record that is mistimed.
-use Rattle.std.proofs.Common.{rules, tests, ◌≡◌, ℕ, Bool, ◌&&◌, ◌||◌, ◌<◌, ltb, List, length, get_or, take, refl, ap, ◌∙◌, arith}
-use Rattle.std.specs.List.{position, enumerate_from, list_any}
-use Rattle.std.proofs.lemmas.List.FromFn.{length-enumerate_from, get_or-enumerate_from}
-use Rattle.std.proofs.lemmas.Iterator.{YieldsList-from_slice}
-use Rattle.std.proofs.lemmas.Iterator.Consumers.{YieldsList-at, YieldsList-from_enumerate}
-use Rattle.std.proofs.lemmas.Iterator.Search.{position_from_yields_List}
+-- The two loops of rule 15: over the records, and over those before each.
+use Rattle.std.proofs.Common.{◌≡◌, ℕ, ◌<◌, ◌≤◌, List, length, get_or, take, sym, ap, ◌∙◌, arith}
+use Rattle.std.proofs.lemmas.Bool.{and_from, and_right, or_from, or_left, or_right, lt-ltb, le-ltb}
+use Rattle.std.proofs.lemmas.List.{get_or-take, length-take-le}
 use Rattle.records.specs.declared.Record.{Record}
-use Rattle.records.specs.Letters.{is_capital}
-use Rattle.records.specs.First.{first}
 use Rattle.records.specs.Names.{blank, at}
-use Rattle.form.specs.Rules.{capitals, clashes, mistimed}
-use Rattle.form.proofs.Positions.{first-position, some-any}
+use Rattle.records.proofs.Firsts.{clear-more, first_some, first-none, some-found, some-none}
+use Rattle.form.specs.Rules.{capitals, clashes}
 use Rattle.form.proofs.turns.first_mistimed.Goals as goal
 
--- the record at k, with k beside it, is mistimed
-abbrev broken : List Record → ℕ → ℕ × Record → Bool
-broken xs capitals p = is_capital p.1.letter && (ltb capitals p.1.turn || list_any (clashes p.1) (take p.0 xs))
+-- the record at j of the k earlier ones is the record at j
+before : (xs : List Record) (k j : ℕ) → k < length xs → j < length (take k xs) → j < k
+before xs k j l m = omega (arith, length-take-le k xs)
 
-is_broken : (xs : List Record) (k n : ℕ) → k < length xs → n ≡ capitals xs → broken xs n (get_or (enumerate_from 0 xs) k (0, blank)) ≡ mistimed xs k
-is_broken xs k n l e =
-    ap (broken xs n) (get_or-enumerate_from 0 xs k (0, blank) l)
-    ∙ ap (λ m. broken xs n (m, at xs k)) (omega arith)
-    ∙ (λ i. is_capital (at xs k).letter && (ltb (e i) (at xs k).turn || some-any (clashes (at xs k)) blank (λ j. clashes (at xs k) (at xs j)) k xs (omega arith) (λ j b. refl) i))
+clashes-at : (xs : List Record) (k j : ℕ) → j < k → clashes (at xs k) (get_or (take k xs) j blank) ≡ clashes (at xs k) (at xs j)
+clashes-at xs k j l = ap (clashes (at xs k)) (get_or-take k xs j blank l)
 
-first_broken : (xs : List Record) (n : ℕ) → n ≡ capitals xs → position (broken xs n) (enumerate_from 0 xs) ≡ first (mistimed xs) (length xs)
-first_broken xs n e =
-    first-position (broken xs n) (0, blank) (mistimed xs) (enumerate_from 0 xs) (λ k l. is_broken xs k n (omega (arith, length-enumerate_from 0 xs)) e)
-    ∙ ap (first (mistimed xs)) (length-enumerate_from 0 xs)
+pub loop-y-preserved : goal.loop-y-preserved
+loop-y-preserved c =
+    let xs = c.args.records.now in
+    let j = before xs c.records.k c.loop-y.y-index c.records-test.true c.loop-y-test.true in (
+      clear-more _ _ c.loop-y.invariant.0 (sym c.if-clash.false ∙ c.clash.ensures ∙ clashes-at xs c.records.k c.loop-y.y-index j),
+      c.loop-y.invariant.1,
+    )
 
-pub returns : goal.returns
-returns c =
-    position_from_yields_List (broken c.args.records.now c.count_capitals-capitals.result) _ _ _ c.position.ensures.ran
-    (YieldsList-from_enumerate (YieldsList-at c.enumerate.ensures.source (YieldsList-from_slice _ c.iter.ensures.rest)) c.enumerate.ensures.count) (λ x b q k. search (rules, tests))
-    ∙ first_broken c.args.records.now c.count_capitals-capitals.result c.count_capitals-capitals.ensures
+pub records-preserved : goal.records-preserved
+records-preserved c =
+    let low : (at c.args.records.now c.records.k).turn ≤ capitals c.args.records.now = omega (arith, c.if-x-capitals.false, c.count_capitals-capitals.ensures) in (
+      clear-more _ _ c.records.invariant.0
+          (sym (and_right _ _ (or_from _ _ (le-ltb _ _ low) (sym (some-none _ _ _ (omega (arith, length-take-le c.records.k c.args.records.now)) c.loop-y.invariant.0))))),
+      c.loop-y.invariant.1,
+    )
+
+pub returns-after-records : goal.returns-after-records
+returns-after-records c = c.records.invariant.1 ∙ first-none _ _ _ c.records-test.false c.records.invariant.0
+
+pub returns-then-x-capitals : goal.returns-then-x-capitals
+returns-then-x-capitals c =
+    let high : capitals c.args.records.now < (at c.args.records.now c.records.k).turn = omega (arith, c.if-x-capitals.true, c.count_capitals-capitals.ensures) in
+    first_some _ _ _ c.records-test.true
+    (sym (and_from _ _ (sym c.if-not-is_capital.ensures) (or_left _ _ (lt-ltb _ _ high))))
+    c.records.invariant.0
+
+pub returns-then-clash : goal.returns-then-clash
+returns-then-clash c =
+    let xs = c.args.records.now in
+    let j = before xs c.records.k c.loop-y.y-index c.records-test.true c.loop-y-test.true in
+    first_some _ _ _ c.records-test.true
+    (sym (and_from _ _ (sym c.if-not-is_capital.ensures)
+    (or_right _ _ (sym (some-found _ _ _ j (sym c.if-clash.true ∙ c.clash.ensures ∙ clashes-at xs c.records.k c.loop-y.y-index j) c.loop-y.invariant.0)))))
+    c.records.invariant.0

@@ -68,7 +68,7 @@ pub(crate) enum Mismatch {
 }
 
 // What a machine gives as its reason: each has a number of its own in the table of refusals, and is told in words.
-pub trait ItemFault: Copy + fmt::Display {
+pub trait ItemFault: Copy + PartialEq + fmt::Debug + fmt::Display {
     ghost number: { Self → ℕ };
 
     fn number(&self) -> u8

@@ -1,4 +1,4 @@
-use Rattle.std.proofs.Common.{◌≡◌, ◌+◌, eqb, Bool, List, ◌∷◌, length, get_or, drop, Some, None, Err, sym, refl, ap, ◌∙◌, arith, rules}
+use Rattle.std.proofs.Common.{◌≡◌, ◌+◌, ◌<◌, eqb, Bool, List, ◌∷◌, length, get_or, drop, Some, None, Err, sym, refl, ap, ◌∙◌, arith}
 use Rattle.std.specs.List.{slice_get}
 use Rattle.std.specs.Option.{ok_or}
 use Rattle.std.specs.Result.{result_ok}
@@ -50,14 +50,8 @@ here c = sym (ap result_ok c.in_ok-action.was) ∙ sym c.ok_or.ensures.ok_part �
 next : (c : In_ok-action) (a : Action) → c.in_ok-action.action ≡ a → (state c).rest c.args.thread ≡ a ∷ rest c
 next c a e = rest_some (threads c.args.case.now) c.args.self.now c.args.thread (omega arith) c.index-self-thread.result c.in_ok-action.action a (here c) e
 
-pub pass-requires : goal.pass-requires
-pass-requires c = place-small c.args.case.now c.args.thread _ _ (here (goal.at.pass-requires c).In_ok-action)
-
-pub join-requires : goal.join-requires
-join-requires c = record { next = place-small c.args.case.now c.args.thread _ _ (here (goal.at.join-requires c).In_ok-action); table = search rules }
-
-pub pass-requires-in-Sync : goal.pass-requires-in-Sync
-pass-requires-in-Sync c = place-small c.args.case.now c.args.thread _ _ (here (goal.at.pass-requires-in-Sync c).In_ok-action)
+small : (c : In_ok-action) → (get_or c.args.self.now.rows c.args.thread c.index-self-thread.result).window.next < 64
+small c = place-small c.args.case.now c.args.thread _ _ (here c)
 
 -- ── A plain read ──
 pub returns-then-sees-seen : goal.returns-then-sees-seen
@@ -85,7 +79,7 @@ returns-else-sees-seen c =
     ∙ read-seen t (state v) (rest v) a.name a.location a.seen (ap (λ b. sees a.location b ((state v).memory a.location)) (buffer_is cs m t (omega arith) d) ∙ sym c.sees.ensures ∙ c.if-sees-seen.false) in
     record {
       answer = sym (ap answer o);
-      after = passed cs m t (omega arith) d _ c.pass.ensures.next _ _ e c.pass.ensures.from c.pass.ensures.upto refl _ _ _ refl refl ∙ sym (ap (moved (state v)) o);
+      after = passed cs m t (omega arith) d _ (c.pass.ensures.next (small v)) _ _ e c.pass.ensures.from c.pass.ensures.upto refl _ _ _ refl refl ∙ sym (ap (moved (state v)) o);
       kept = tt;
     }
 
@@ -102,7 +96,7 @@ returns-in-Write c =
     let n = ap name_of (sym c.in-Write.is) ∙ name_at_lem (records_of c.args.case.now) t _ _ (omega arith) (here v) in
     record {
       answer = sym (ap answer o);
-      after = joined cs m t (omega arith) d _ c.join.ensures.next _ _ e _ _ n c.join.ensures.waiting ∙ sym (ap (moved (state v)) o);
+      after = joined cs m t (omega arith) d _ (c.join.ensures.next (small v)) _ _ e _ _ n (c.join.ensures.waiting (small v)) ∙ sym (ap (moved (state v)) o);
       kept = tt;
     }
 
@@ -155,7 +149,7 @@ returns-in_ok-synchronize-in-Sync c =
     record {
       answer = sym (ap answer o);
       after =
-          passed cs m t (omega arith) d _ c.pass-in-Sync.ensures.next _ _ e c.pass-in-Sync.ensures.from c.pass-in-Sync.ensures.upto refl _ _ _ c.in_ok-synchronize-in-Sync.ensures.writes c.in_ok-synchronize-in-Sync.ensures.turns
+          passed cs m t (omega arith) d _ (c.pass-in-Sync.ensures.next (small v)) _ _ e c.pass-in-Sync.ensures.from c.pass-in-Sync.ensures.upto refl _ _ _ c.in_ok-synchronize-in-Sync.ensures.writes c.in_ok-synchronize-in-Sync.ensures.turns
           ∙ sym (ap (moved (state v)) o);
       kept = tt;
     }

@@ -31,5 +31,4 @@ mod rows;
 
 pub use fault::TextFault;
 pub use report::{Cell, write_report};
-pub use row::Row;
 pub use rows::{read, write};

@@ -1,7 +1,7 @@
 // Numbers, letters and bytes written into a text, one after the other.
 ghost use Rattle.std.specs.Prelude.{◌≡◌, ◌+◌, ◌^◌, ◌<◌, ◌≤◌, [], ◌∷◌, ◌++◌, length, decimal};
 ghost use Rattle.text.specs.Sheets.{ended};
-ghost use Rattle.text.specs.Writing.{HasRoom, Wrote};
+ghost use Rattle.text.specs.Writing.{placed, HasRoom, Wrote};
 
 // How many digits a number is written with.
 pub(crate) fn digits(n: u64) -> usize
@@ -13,6 +13,22 @@ pub(crate) fn digits(n: u64) -> usize
         Some(log) => log as usize + 1,
         None => 1,
     }
+}
+
+// Writes a number from a place on, and answers where it ends. By the place and not by the writer: its end would be moved in
+// memory for each digit, which took a third longer.
+fn put_number(out: &mut [u8], at: usize, n: u64) -> usize
+    requires { at + length (decimal n) ≤ length out.old }
+    ensures end { result ≡ at + length (decimal n) }
+    ensures bytes { out.new ≡ placed out.old at (decimal n) }
+{
+    if n < 10 {
+        out[at] = b'0' + n as u8;
+        return at + 1;
+    }
+    let end = put_number(out, at, n / 10);
+    out[end] = b'0' + (n % 10) as u8;
+    end + 1
 }
 
 // The caller's bytes, of which those before `end` are written. What a method writes goes from there on, and the other
@@ -60,11 +76,7 @@ impl<'a> Writer<'a> {
         requires { HasRoom self.old (decimal n) }
         ensures wrote { Wrote self.old self.new (decimal n) }
     {
-        if n < 10 {
-            return self.byte(b'0' + n as u8);
-        }
-        self.number(n / 10);
-        self.byte(b'0' + (n % 10) as u8);
+        self.end = put_number(self.out, self.end, n);
     }
 
     // A line and its end.

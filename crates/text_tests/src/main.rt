@@ -9,7 +9,7 @@ ghost use Rattle.text_tests.specs.Examples.{Examples};
 
 use records::{Item, Record};
 use std::{fs, io};
-use text::{Row, TextFault};
+use text::TextFault;
 
 // Lists of these lengths have room for more than a file may hold, and so have the bytes for its text.
 const RECORDS: usize = 300;
@@ -24,9 +24,36 @@ fn refused(rt: &HostRuntime, name: &str, fault: TextFault) -> io::Result<()> {
     println!(rt; "{name}: {number} at line {place}")
 }
 
+// The rows of a file.
+trait Rows: Copy {
+    fn read(text: &[u8], rows: &mut [Self]) -> Result<usize, TextFault>;
+
+    fn write(rows: &[Self], out: &mut [u8]) -> Result<usize, TextFault>;
+}
+
+impl Rows for Record {
+    fn read(text: &[u8], rows: &mut [Record]) -> Result<usize, TextFault> {
+        text::read(text, rows)
+    }
+
+    fn write(rows: &[Record], out: &mut [u8]) -> Result<usize, TextFault> {
+        text::write(rows, out)
+    }
+}
+
+impl Rows for Item {
+    fn read(text: &[u8], rows: &mut [Item]) -> Result<usize, TextFault> {
+        text::read(text, rows)
+    }
+
+    fn write(rows: &[Item], out: &mut [u8]) -> Result<usize, TextFault> {
+        text::write(rows, out)
+    }
+}
+
 // Reads a text into this list, writes what was read, and says what came of it.
-fn again<R: Row>(rt: &HostRuntime, name: &str, text: &[u8], rows: &mut [R]) -> io::Result<()> {
-    let n = match text::read(text, rows) {
+fn again<R: Rows>(rt: &HostRuntime, name: &str, text: &[u8], rows: &mut [R]) -> io::Result<()> {
+    let n = match R::read(text, rows) {
         Ok(n) => n,
         Err(fault) => return refused(rt, name, fault),
     };
@@ -34,7 +61,7 @@ fn again<R: Row>(rt: &HostRuntime, name: &str, text: &[u8], rows: &mut [R]) -> i
     if n > rows.len() {
         return Ok(());
     }
-    match text::write(&rows[0..n], &mut bytes) {
+    match R::write(&rows[0..n], &mut bytes) {
         Ok(m) if m > BYTES => Ok(()),
         Ok(m) if text == &bytes[0..m] => println!(rt; "{name}: {n}, and the same text"),
         Ok(_) => println!(rt; "{name}: {n}, and another text"),
@@ -42,7 +69,7 @@ fn again<R: Row>(rt: &HostRuntime, name: &str, text: &[u8], rows: &mut [R]) -> i
     }
 }
 
-fn file<R: Row>(rt: &HostRuntime, name: &str, rows: &mut [R]) -> io::Result<()> {
+fn file<R: Rows>(rt: &HostRuntime, name: &str, rows: &mut [R]) -> io::Result<()> {
     let text = fs::read(rt, name)?;
     again(rt, name, text.as_slice(), rows)
 }

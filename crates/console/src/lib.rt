@@ -41,40 +41,53 @@ pub fn read_texts(rt: &HostRuntime, options: &Options) -> io::Result<Texts> {
     Ok(Texts { case, evidence })
 }
 
-// A program of a name, with its help: writes to standard output what `write` makes of the two texts in these bytes, and says
-// the verdict on them in words.
-pub fn run<W: Fn(&[u8], &[u8], &mut [u8]) -> Result<usize, TextFault>>(
+// A program: its name, its help, and what it writes of the two texts.
+pub trait Program {
+    const NAME: &'static str;
+
+    const HELP: &'static str;
+
+    // Writes to standard output what the program makes of the two texts.
+    fn write(rt: &HostRuntime, texts: &Texts) -> anyhow::Result<()>;
+}
+
+// Writes to standard output the front of these bytes, as far as they are said to be written.
+pub fn print(
     rt: &HostRuntime,
-    name: &str,
-    help: &str,
-    bytes: &mut [u8],
-    write: W,
-) -> anyhow::Result<()>
-    requires { W.IsAlwaysCallable write }
-{
-    let options = match Options::read(rt) {
-        Ok(options) => options,
-        Err(OptionsError::Io(error)) => return Err(error.into()),
-        Err(OptionsError::Memory(error)) => return Err(error.into()),
-        Err(misuse) => {
-            eprintln!(rt; "{name}: {misuse}")?;
-            return Err(anyhow!("wrong arguments"));
-        }
-    };
-    if options.help {
-        rt.println(help)?;
-        return Ok(());
-    }
-    let Texts { case, evidence } = read_texts(rt, &options)?;
-    match write(case.as_slice(), evidence.as_slice(), bytes) {
+    bytes: &[u8],
+    written: Result<usize, TextFault>,
+) -> anyhow::Result<()> {
+    match written {
         Ok(count) if count <= bytes.len() => rt.stdout().write_all(&bytes[0..count])?,
         _ => {
             let room = bytes.len();
             return Err(anyhow!("what is to be written is longer than {room} bytes"));
         }
     }
+    Ok(())
+}
+
+// Runs a program: reads its arguments and the two files, lets it write, and says the verdict in words.
+pub fn run<P: Program>(rt: &HostRuntime) -> anyhow::Result<()> {
+    let options = match Options::read(rt) {
+        Ok(options) => options,
+        Err(OptionsError::Io(error)) => return Err(error.into()),
+        Err(OptionsError::Memory(error)) => return Err(io::Error::from(error).into()),
+        Err(misuse) => {
+            let name = P::NAME;
+            eprintln!(rt; "{name}: {misuse}")?;
+            return Err(anyhow!("wrong arguments"));
+        }
+    };
+    if options.help {
+        rt.println(P::HELP)?;
+        return Ok(());
+    }
+    let texts = read_texts(rt, &options)?;
+    P::write(rt, &texts)?;
     if !options.quiet {
-        explain(rt, &judge(case.as_slice(), evidence.as_slice()), &options)?;
+        let judgement = judge(texts.case.as_slice(), texts.evidence.as_slice());
+        explain(rt, &judgement, &options)?;
     }
     Ok(())
 }

@@ -1,10 +1,18 @@
 // The judge: reads a case and its evidence, and writes the verdict on them.
 #![tactic(auto)]
 
-use console::run;
+use console::{Program, Texts, print, run};
 use verdict::write_verdict;
 
-const HELP: &str = "usage: judge [--quiet] [CASE EVIDENCE]
+// The longest row has fewer bytes.
+const ROOM: usize = 64;
+
+struct Judge;
+
+impl Program for Judge {
+    const NAME: &'static str = "judge";
+
+    const HELP: &'static str = "usage: judge [--quiet] [CASE EVIDENCE]
 
 Reads a case and its evidence (case.csv and evidence.csv in this folder, or the two files that are named) and writes the
 verdict to standard output: a header and one row, verdict,layer,refusal,place.
@@ -18,9 +26,13 @@ verdict to standard output: a header and one row, verdict,layer,refusal,place.
 The evidence is a certificate if its first item is M or O, and a run otherwise. A file that cannot be read counts as empty.
 A line in plain words goes to standard error; --quiet turns it off. docs/JUDGE.md has the rules.";
 
-// The longest row has fewer bytes.
-const ROOM: usize = 64;
+    fn write(rt: &HostRuntime, texts: &Texts) -> anyhow::Result<()> {
+        let mut bytes = [0; ROOM];
+        let written = write_verdict(texts.case.as_slice(), texts.evidence.as_slice(), &mut bytes);
+        print(rt, &bytes, written)
+    }
+}
 
 fn main(rt: HostRuntime) -> anyhow::Result<()> {
-    run(&rt, "judge", HELP, &mut [0; ROOM], write_verdict)
+    run::<Judge>(&rt)
 }

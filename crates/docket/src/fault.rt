@@ -30,6 +30,13 @@ impl TicketFault {
             TicketFault::NoneLeft => 43,
         }
     }
+
+    // 0, for each
+    pub fn place(&self) -> u16
+        ensures value { result ≡ (ticket_told self.now).place }
+    {
+        0
+    }
 }
 
 // Why a docket refuses a call, where F is the kind's reason for refusing an item.
@@ -57,7 +64,7 @@ impl<F: ItemFault> DocketFault<F> {
     {
         match *self {
             DocketFault::ItemRefused { taken, .. } => taken,
-            DocketFault::Ticket(_) => 0,
+            DocketFault::Ticket(fault) => fault.place(),
         }
     }
 }

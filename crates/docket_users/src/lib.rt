@@ -50,10 +50,11 @@ mod tests {
     use docket::Verdict;
     use docket::calls::{Answer, Call};
     use docket::fault::{HandedBack, TicketFault};
-    use docket::ticket::TicketName;
+    use docket::ticket::{Ticket, TicketName};
     use docket::work::session;
     use records::Record;
     use sessions::examination::examine;
+    use std::process::Abort;
     use std::test::Fail;
 
     // Written out, since a constant calls no trait's method.
@@ -85,6 +86,16 @@ mod tests {
         let mut case = CheckedCase::empty();
         let _ = case.fill(&[B]);
         Docket::new(Tally { count: 9 }, &case, number)
+    }
+
+    // Of any kind, the answers can be compared, and printed where they differ.
+    fn foreign<K: Evidence>(docket: &mut Docket<K>, ticket: &Ticket) -> bool {
+        docket.offer(ticket, A) == Err(TicketFault::NotThisTicket.into())
+    }
+
+    fn twice_alike<K: Evidence>(rt: &impl Abort, docket: &mut Docket<K>, item: Item) {
+        let first = try_first(docket, item);
+        assert_eq!(rt; try_first(docket, item), first);
     }
 
     #[test]
@@ -138,8 +149,16 @@ mod tests {
             }
         );
         assert_eq!(rt; second, TicketFault::StillOpen);
+        assert_eq!(rt; (second.number(), second.place()), (41, 0));
         assert_eq!(rt; items, 0);
         Ok(())
+    }
+
+    #[test]
+    fn one_item_twice(rt: HostRuntime) {
+        let mut docket = docket(7);
+        twice_alike(&rt, &mut docket, A);
+        twice_alike(&rt, &mut docket, D);
     }
 
     // A list of calls in slots: a second opening, one into a full slot, an empty slot, and a ticket that went back.
@@ -191,6 +210,7 @@ mod tests {
         let mut docket7 = docket(7);
         let mut docket8 = docket(8);
         let ticket = docket8.open()?;
+        let not_mine = foreign(&mut docket7, &ticket);
         let offered = docket7.offer(&ticket, A);
         let fault: DocketFault<TallyFault> = match docket7.settle(ticket) {
             Ok(_) => return Err(Fail::new("settled")),
@@ -200,6 +220,7 @@ mod tests {
             },
         };
         assert_eq!(rt; offered, Err(TicketFault::NotThisTicket.into()));
+        assert!(rt; not_mine);
         assert_eq!(rt; fault.number(), 42);
         assert_eq!(rt; fault.place(), 0);
         Ok(())

@@ -4,7 +4,7 @@ use Rattle.records.specs.declared.Item.{Item}
 use Rattle.records.specs.Names.{Case}
 use Rattle.machines.specs.declared.items.RunItem.{RunItem}
 use Rattle.machines.specs.declared.items.CertificateItem.{CertificateItem}
-use Rattle.machines.specs.Encoded.{run_encoded, certificate_encoded}
+pub use Rattle.machines.specs.Encoded.{run_encoded, certificate_encoded}
 use Rattle.machines.specs.Items.{run_item, certificate_item, said}
 use Rattle.agreement.specs.Convert.{replay}
 use Rattle.agreement.specs.Moments.{by_moments}

@@ -6,6 +6,7 @@ use Rattle.machines.specs.declared.rows.PendingWrite.{PendingWrite}
 use Rattle.machines.specs.declared.rows.Row.{Row}
 use Rattle.machines.specs.declared.rows.Run.{Run}
 use Rattle.machines.specs.Memory.{held}
+pub use Rattle.machines.specs.Windows.{oldest, younger}
 use Rattle.machines.specs.Windows.{waiting}
 use Rattle.machines.specs.Run.{Waiting, waits, RunState}
 

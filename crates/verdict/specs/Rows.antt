@@ -4,7 +4,7 @@ use Rattle.text.specs.Reports.{one_row_text}
 use Rattle.verdict.specs.declared.judgement.VerdictRow.{VerdictRow}
 use Rattle.verdict.specs.declared.layer.Layer.{Layer}
 use Rattle.verdict.specs.Judging.{Judged, Allowed, Unfinished, Refused}
-use Rattle.verdict.specs.Layers.{layer_name}
+pub use Rattle.verdict.specs.Layers.{layer_name}
 
 -- verdict, layer, refusal and place, by case
 pub record Row : Type 0 where

@@ -5,6 +5,8 @@
 // said in words goes to standard error.
 #![tactic(auto)]
 
+ghost use Rattle.std.specs.Prelude.{◌≡◌, false, IfOk, IfSome};
+
 pub mod options;
 pub mod words;
 
@@ -67,22 +69,33 @@ pub fn print(
     Ok(())
 }
 
-// Runs a program: reads its arguments and the two files, lets it write, and says the verdict in words.
-pub fn run<P: Program>(rt: &HostRuntime) -> anyhow::Result<()> {
+// What a program of this name does first: it reads its arguments. Where they ask for its help it prints that, answers none,
+// and there is no more to do. Who knows a program's name, help or way of writing only as it runs goes on by `read_texts`,
+// `print` and `explain`, as the crate console_tests does; a `Program` has all of it in its type.
+pub fn begin(rt: &HostRuntime, name: &str, help: &str) -> anyhow::Result<Option<Options>>
+    ensures helped { IfOk result (λ begun. IfSome begun (λ options. options.help ≡ false)) }
+{
     let options = match Options::read(rt) {
         Ok(options) => options,
         Err(OptionsError::Io(error)) => return Err(error.into()),
         Err(OptionsError::Memory(error)) => return Err(io::Error::from(error).into()),
         Err(misuse) => {
-            let name = P::NAME;
             eprintln!(rt; "{name}: {misuse}")?;
             return Err(anyhow!("wrong arguments"));
         }
     };
     if options.help {
-        rt.println(P::HELP)?;
-        return Ok(());
+        rt.println(help)?;
+        return Ok(None);
     }
+    Ok(Some(options))
+}
+
+// Runs a program: reads its arguments and the two files, lets it write, and says the verdict in words.
+pub fn run<P: Program>(rt: &HostRuntime) -> anyhow::Result<()> {
+    let Some(options) = begin(rt, P::NAME, P::HELP)? else {
+        return Ok(());
+    };
     let texts = read_texts(rt, &options)?;
     P::write(rt, &texts)?;
     if !options.quiet {

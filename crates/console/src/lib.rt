@@ -70,8 +70,8 @@ pub fn print(
 }
 
 // What a program of this name does first: it reads its arguments. Where they ask for its help it prints that, answers none,
-// and there is no more to do. Who knows a program's name, help or way of writing only as it runs goes on by `read_texts`,
-// `print` and `explain`, as the crate console_tests does; a `Program` has all of it in its type.
+// and there is no more to do; no clause says what is read or printed. Who knows a program's name, help or way of writing only
+// as it runs goes on by `read_texts`, `print` and `explain`, as the crate console_tests does; a `Program` has all of it in its type.
 pub fn begin(rt: &HostRuntime, name: &str, help: &str) -> anyhow::Result<Option<Options>>
     ensures helped { IfOk result (λ begun. IfSome begun (λ options. options.help ≡ false)) }
 {

@@ -1,5 +1,5 @@
 // What another crate makes of the parts of console: a program whose name, help, bytes and way of writing come with a call.
-// It is run twice on one case and its evidence: it writes the verdict, and then evidence of the other kind.
+// It is run twice on the two files that its arguments name: it writes the verdict, and then evidence of the other kind.
 #![tactic(auto)]
 
 use console::words::explain;

@@ -69,11 +69,11 @@ pub fn print(
     Ok(())
 }
 
-// What a program of this name does first: it reads its arguments. Where they ask for its help it prints that, answers none,
-// and there is no more to do; no clause says what is read or printed. Who knows a program's name, help or way of writing only
-// as it runs goes on by `read_texts`, `print` and `explain`, as the crate console_tests does; a `Program` has all of it in its type.
-pub fn begin(rt: &HostRuntime, name: &str, help: &str) -> anyhow::Result<Option<Options>>
-    ensures helped { IfOk result (λ begun. IfSome begun (λ options. options.help ≡ false)) }
+// The options that a program of this name was started with; none where they ask for its help, which is then printed. No clause
+// says what is read or printed. A `Program` has its name and its help in its type; who knows them only as it runs goes on from
+// here by `read_texts`, `print` and `explain`, as the crate console_tests does.
+pub fn options_or_help(rt: &HostRuntime, name: &str, help: &str) -> anyhow::Result<Option<Options>>
+    ensures helped { IfOk result (λ read. IfSome read (λ options. options.help ≡ false)) }
 {
     let options = match Options::read(rt) {
         Ok(options) => options,
@@ -93,7 +93,7 @@ pub fn begin(rt: &HostRuntime, name: &str, help: &str) -> anyhow::Result<Option<
 
 // Runs a program: reads its arguments and the two files, lets it write, and says the verdict in words.
 pub fn run<P: Program>(rt: &HostRuntime) -> anyhow::Result<()> {
-    let Some(options) = begin(rt, P::NAME, P::HELP)? else {
+    let Some(options) = options_or_help(rt, P::NAME, P::HELP)? else {
         return Ok(());
     };
     let texts = read_texts(rt, &options)?;

@@ -3,7 +3,7 @@
 #![tactic(auto)]
 
 use console::words::explain;
-use console::{begin, print, read_texts};
+use console::{options_or_help, print, read_texts};
 use text::TextFault;
 use verdict::{judge, write_converted, write_verdict};
 
@@ -24,7 +24,7 @@ fn run_by<W: Fn(&[u8], &[u8], &mut [u8]) -> Result<usize, TextFault>>(
 ) -> anyhow::Result<()>
     requires { W.IsAlwaysCallable write }
 {
-    let Some(options) = begin(rt, name, help)? else {
+    let Some(options) = options_or_help(rt, name, help)? else {
         return Ok(());
     };
     let texts = read_texts(rt, &options)?;
